@@ -23,6 +23,7 @@ use failing::list::KeepList;
 use faithful::read::Held;
 use outcome::Subsetted;
 use refusal::Refusal;
+use subset::Way;
 
 // A list traced, and its cut measured with what was traced: the way, or the refusal.
 fn try_list(search: &mut Search<'_>, keep: &[u16]) -> Result<Subsetted, Refusal>
@@ -48,7 +49,7 @@ fn is_renumbered(a: Result<Subsetted, Refusal>) -> bool
 {
     match a {
         Err(_) => false,
-        Ok(c) => c.way.is_renumbered(),
+        Ok(c) => c.way == Way::Renumbered,
     }
 }
 
@@ -145,7 +146,7 @@ fn culprit_in(search: &mut Search<'_>, keep: &[u16]) -> Result<Option<u16>, Refu
         × (Stays search.old search.new) }
 {
     let c = try_list(&mut *search, keep)?;
-    if c.way.is_stubbed() {
+    if c.way == Way::Stubbed {
         return Ok(least_culprit(search, keep));
     }
     Ok(None)
@@ -171,7 +172,7 @@ fn culprit_font(
         slice: &mut *slice,
     };
     let r = culprit_in(&mut search, keep);
-    reach::ranks::clear(words);
+    words.fill(0);
     slice.fill(0);
     r
 }

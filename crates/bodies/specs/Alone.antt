@@ -3,11 +3,11 @@ use Rattle.std.specs.Prelude.{ℕ, List}
 use Rattle.std.proofs.Props.{props}
 use Rattle.index.specs.Alone.{good_prop}
 use Rattle.unfold.specs.Unfold.{Row}
-use Rattle.bodies.specs.Ways.{SubrsFit}
+use Rattle.reach.specs.Reach.{SubrsFit}
 use Rattle.bodies.specs.Sources.{Sourced}
 use Rattle.bodies.specs.declared.subrs.Source.{Source}
-use Rattle.bodies.specs.declared.subrs.Subrs.{Subrs}
-use Rattle.bodies.specs.declared.subrs.Subrs.TheVariants.{Global, Local}
+use Rattle.reach.specs.declared.Subrs.{Subrs}
+use Rattle.reach.specs.declared.Subrs.TheVariants.{Global, Local}
 
 subrs_fit_prop : (of : Subrs) → IsProp (SubrsFit of)
 subrs_fit_prop Global = Prim.hlevel props

@@ -14,8 +14,8 @@ use Rattle.unfold.specs.Unfold.{Row, Site}
 use Rattle.prune.specs.Renumber.{Calls}
 use Rattle.subset.specs.Pruned.{renumbered_body}
 use Rattle.record.specs.Record.{rows_of}
-use Rattle.reach.specs.Reach.{site_of}
-use Rattle.reach.specs.declared.Site as code
+use Rattle.unfold.specs.Sites.{site_of}
+use Rattle.unfold.specs.declared.Site as code
 use Rattle.renumber.specs.Ranks.{calls_by, Ranked}
 use Rattle.renumber.specs.OperandLaws.{calls-read}
 use Rattle.renumber.specs.Turn.{Inputs, sized_of, body_of_lem, is_yes}
@@ -26,7 +26,7 @@ use Rattle.bodies.specs.Ways.{holds, new_body, body_by, by_way, subr_by, reached
 use Rattle.bodies.specs.Sizes.{AtMost, len_at}
 use Rattle.bodies.specs.SizesLaws.{renumbered-short}
 use Rattle.bodies.specs.SubrsLaws.{new-body_is}
-use Rattle.bodies.specs.declared.subrs.Subrs.{Subrs}
+use Rattle.reach.specs.declared.Subrs.{Subrs}
 use Rattle.subset.specs.Way.{is_renumbered, is_stubbed}
 use Rattle.subset.specs.declared.Way.{Way}
 

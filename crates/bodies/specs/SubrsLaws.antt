@@ -24,7 +24,7 @@ use Rattle.renumber.specs.Turn.{body_of_lem}
 use Rattle.renumber.specs.declared.Ranks.{Ranks}
 use Rattle.bodies.specs.Ways.{many_of, holds, new_body, body_by, new_subrs, subrs_by, subr_by, reached_in, is_kept, kept_count, every, SubrsIn}
 use Rattle.bodies.specs.WritingLaws.{count-every, items_many}
-use Rattle.bodies.specs.declared.subrs.Subrs.{Subrs}
+use Rattle.reach.specs.declared.Subrs.{Subrs}
 use Rattle.subset.specs.Way.{is_renumbered, is_stubbed, not_both}
 use Rattle.subset.specs.declared.Way.{Way}
 use Rattle.subset.specs.declared.Way.{Way}

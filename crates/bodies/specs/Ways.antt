@@ -11,14 +11,15 @@ use Rattle.prune.specs.Renumber.{Calls}
 use Rattle.subset.specs.Kept.{those}
 use Rattle.subset.specs.Pruned.{renumbered_body, renumbered_subrs, stubbed_from}
 use Rattle.record.specs.Record.{rows_of}
-use Rattle.reach.specs.Reach.{site_of, rises}
+use Rattle.unfold.specs.Sites.{site_of}
+use Rattle.reach.specs.Reach.{SubrsFit, rises}
 use Rattle.renumber.specs.Ranks.{Ranked}
 use Rattle.renumber.specs.Turn.{body_of_lem}
 use Rattle.renumber.specs.Bodies.{calls_of}
 use Rattle.renumber.specs.declared.Ranks.{Ranks}
 use Rattle.renumber.specs.declared.body.Body.{Body}
-use Rattle.bodies.specs.declared.subrs.Subrs.{Subrs}
-use Rattle.bodies.specs.declared.subrs.Subrs.TheVariants.{Global, Local}
+use Rattle.reach.specs.declared.Subrs.{Subrs}
+use Rattle.reach.specs.declared.Subrs.TheVariants.{Global, Local}
 use Rattle.subset.specs.Way.{is_renumbered, is_stubbed}
 use Rattle.subset.specs.declared.Way.{Way}
 
@@ -77,11 +78,6 @@ abbrev pub site_in : Subrs → ℕ → Site
 site_in Global k = global k
 site_in (Local fd) k = local fd k
 
--- an FD that a row can hold
-abbrev pub SubrsFit : Subrs → Type 0
-SubrsFit Global = Unit
-SubrsFit (Local fd) = fd < 256
-
 -- which subroutines are written: all, or those reached
 abbrev pub is_kept : Way → (ℕ → Bool) → ℕ → Bool
 is_kept way set k = pick (is_renumbered way) (set k) true
@@ -112,11 +108,13 @@ pub record SubrsIn (b ws : List ℕ) (ix : Index) (own locals globals : Ranks) (
 
 -- ---- tables and numbers
 
--- the bits of the locals of an FD by the table of all FDs: where they stand, behind that of each how many, behind these how many are reached,
--- and below each eighth
-abbrev pub ranks_in : List ℕ → ℕ → Ranks
-ranks_in table fd =
-    record { at = get_or table fd 0; count = get_or table (256 + fd) 0; reached = get_or table (512 + fd) 0; low = get_or table (768 + fd) 0; high = get_or table (1024 + fd) 0 }
+-- no bits
+abbrev pub no_ranks : Ranks
+no_ranks = record { at = 0; count = 0; reached = 0; low = 0; high = 0 }
+
+-- where the bits of the locals of an FD stand, by the table of all FDs
+abbrev pub ranks_in : List Ranks → ℕ → Ranks
+ranks_in table fd = get_or table fd no_ranks
 
 -- the numbers below k
 abbrev pub every : ℕ → Bool

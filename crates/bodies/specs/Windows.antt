@@ -1,8 +1,8 @@
 -- Subroutines by windows of a record that does not rise (document 01, 'Reach record': order and repeats are free).
 use Rattle.std.specs.Prelude.{ℕ, true}
 use Rattle.bodies.specs.declared.subrs.Source.{Source}
-use Rattle.bodies.specs.declared.subrs.Subrs.{Subrs}
-use Rattle.bodies.specs.declared.subrs.Subrs.TheVariants.{Global, Local}
+use Rattle.reach.specs.declared.Subrs.{Subrs}
+use Rattle.reach.specs.declared.Subrs.TheVariants.{Global, Local}
 
 -- the same subroutines by a record that rises
 abbrev pub source_in_order : Source → Source

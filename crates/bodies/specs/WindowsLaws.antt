@@ -9,8 +9,8 @@ use Rattle.index.specs.Index.{items_of}
 use Rattle.unfold.specs.Unfold.{Row, Site, masked}
 use Rattle.record.specs.Record.{rows_of}
 use Rattle.prune.specs.Renumber.{Calls}
-use Rattle.reach.specs.Reach.{site_of}
-use Rattle.reach.specs.declared.Site as code
+use Rattle.unfold.specs.Sites.{site_of}
+use Rattle.unfold.specs.declared.Site as code
 use Rattle.renumber.specs.Turn.{sized_of, body_of_lem}
 use Rattle.renumber.specs.Ranks.{calls_by}
 use Rattle.mask_rows.specs.MaskRows.{SameMasks, Fillable, Covers, HasOrNone}
@@ -19,13 +19,14 @@ use Rattle.mask_rows.specs.SameLaws.{same_body}
 use Rattle.mask_rows.specs.declared.Window.{Window}
 use Rattle.long_bodies.specs.Offsets.{body_in, Sited}
 use Rattle.long_bodies.specs.TwoLaws.{site_mask}
-use Rattle.bodies.specs.Ways.{holds, body_by, reached_in, site_in, SubrsFit, is_stub}
+use Rattle.bodies.specs.Ways.{holds, body_by, reached_in, site_in, is_stub}
 use Rattle.bodies.specs.Sources.{Sourced, kept_from, subr_from}
 use Rattle.bodies.specs.Sizes.{AtMost, len_at}
 use Rattle.bodies.specs.Windows.{source_in_order, kind_of, fd_of}
 use Rattle.bodies.specs.declared.subrs.Source.{Source}
-use Rattle.bodies.specs.declared.subrs.Subrs.{Subrs}
-use Rattle.bodies.specs.declared.subrs.Subrs.TheVariants.{Global, Local}
+use Rattle.reach.specs.Reach.{SubrsFit}
+use Rattle.reach.specs.declared.Subrs.{Subrs}
+use Rattle.reach.specs.declared.Subrs.TheVariants.{Global, Local}
 use Rattle.subset.specs.Way.{is_renumbered}
 use Rattle.subset.specs.declared.Way.{Way}
 

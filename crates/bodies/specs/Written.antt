@@ -2,7 +2,7 @@
 use Rattle.std.specs.Prelude.{ℕ, ◌≡◌, Bool, List, [], get_or, Option}
 use Rattle.index.specs.Index.{items_of}
 use Rattle.record.specs.Record.{rows_of}
-use Rattle.reach.specs.Reach.{site_of}
+use Rattle.unfold.specs.Sites.{site_of}
 use Rattle.renumber.specs.Bodies.{Reads}
 use Rattle.renumber.specs.declared.Ranks.{Ranks}
 use Rattle.renumber.specs.declared.body.Body.{Body}

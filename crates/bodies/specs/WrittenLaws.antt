@@ -11,7 +11,7 @@ use Rattle.index.specs.Index.{items_of}
 use Rattle.unfold.specs.Unfold.{Row}
 use Rattle.prune.specs.Renumber.{Calls}
 use Rattle.record.specs.Record.{rows_of}
-use Rattle.reach.specs.Reach.{site_of}
+use Rattle.unfold.specs.Sites.{site_of}
 use Rattle.subset.specs.Kept.{those}
 use Rattle.subset.specs.Pruned.{each}
 use Rattle.renumber.specs.Ranks.{calls_by}

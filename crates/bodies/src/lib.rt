@@ -6,10 +6,10 @@ pub mod measured;
 pub mod subroutines;
 pub mod subrs;
 
-ghost use Rattle.std.specs.Prelude.{◌≡◌, true, ◌+◌, ◌*◌, ◌≤◌, ◌<◌, false, length};
+ghost use Rattle.std.specs.Prelude.{◌≡◌, true, ◌+◌, ◌*◌, ◌≤◌, false, length};
 ghost use Rattle.octets.specs.Out.{Writes};
 ghost use Rattle.renumber.specs.Turn.{sized_of};
-ghost use Rattle.bodies.specs.Ways.{holds, by_way, new_by_way, ranks_in};
+ghost use Rattle.bodies.specs.Ways.{holds, by_way, new_by_way};
 ghost use Rattle.bodies.specs.Sizes.{AtMost};
 
 use long_bodies::long_body::LongBody;
@@ -19,6 +19,15 @@ use renumber::Ranks;
 use renumber::body::Body;
 use subset::Way;
 
+// No bits.
+pub const NO_RANKS: Ranks = Ranks {
+    at: 0,
+    count: 0,
+    reached: 0,
+    low: 0,
+    high: 0,
+};
+
 // How bodies are written: the way, the bits of the globals, and whether the rows rise.
 #[derive(Clone, Copy)]
 pub struct Manner {
@@ -27,31 +36,11 @@ pub struct Manner {
     pub rising: bool,
 }
 
-// Where the bits of the local subroutines of an FD stand, by the table: 256 places, behind them 256 counts, behind these how many are reached,
-// and behind these twice 256 times four sums.
-pub fn ranks_in(table: &[usize], fd: usize) -> Ranks
-    requires { 1024 + fd < length table.now }
-    ensures { result ≡ ranks_in table.now fd }
-{
-    let at = table[fd];
-    let count = table[256 + fd];
-    let reached = table[512 + fd];
-    let low = table[768 + fd];
-    let high = table[1024 + fd];
-    Ranks {
-        at,
-        count,
-        reached,
-        low,
-        high,
-    }
-}
-
 // How long a charstring or subroutine is, by the way; or that its renumbering fails.
 pub fn body_len(way: Way, body: &Body<'_>) -> Option<usize>
     ensures { (result ≡ sized_of (by_way way body.now)) × (AtMost (5 * length body.now.code.now) result) }
 {
-    if way.is_renumbered() {
+    if way == Way::Renumbered {
         return renumbered::renumbered_len(body);
     }
     Some(body.code.len())
@@ -61,7 +50,7 @@ pub fn body_len(way: Way, body: &Body<'_>) -> Option<usize>
 pub fn long_body_len(way: Way, one: &LongBody<'_>, lent: &mut Lent<'_>) -> Option<usize>
     ensures { (result ≡ sized_of (by_way way one.now.body.now)) × (AtMost (5 * length one.now.body.now.code.now) result) }
 {
-    if way.is_renumbered() {
+    if way == Way::Renumbered {
         return long_bodies::renumbered_len(one, lent);
     }
     Some(one.body.code.len())
@@ -72,7 +61,7 @@ pub fn put_body(way: Way, body: &Body<'_>, out: &mut Out<'_>)
     requires { (holds (by_way way body.now) ≡ true) × (out.old.at + length (new_by_way way body.now) ≤ length out.old.bytes.now) }
     ensures { Writes out.old (new_by_way way body.now) out.new }
 {
-    if way.is_renumbered() {
+    if way == Way::Renumbered {
         return renumbered::put_renumbered(body, out);
     }
     out.copy(body.code);
@@ -83,7 +72,7 @@ pub fn put_long_body(way: Way, one: &LongBody<'_>, out: &mut Out<'_>, lent: &mut
     requires { (holds (by_way way one.now.body.now) ≡ true) × (out.old.at + length (new_by_way way one.now.body.now) ≤ length out.old.bytes.now) }
     ensures { Writes out.old (new_by_way way one.now.body.now) out.new }
 {
-    if way.is_renumbered() {
+    if way == Way::Renumbered {
         return long_bodies::put_renumbered(one, out, lent);
     }
     out.copy(one.body.code);

@@ -4,7 +4,7 @@ ghost use Rattle.std.specs.Prelude.{◌≡◌, true, ◌+◌, ◌≤◌, ◌<◌
 ghost use Rattle.octets.specs.Out.{Writes};
 ghost use Rattle.index.specs.Write.{index_bytes};
 ghost use Rattle.mask_rows.specs.MaskRows.{HasOrNone};
-ghost use Rattle.reach.specs.Reach.{site_of};
+ghost use Rattle.unfold.specs.Sites.{site_of};
 ghost use Rattle.renumber.specs.Ranks.{Ranked};
 ghost use Rattle.renumber.specs.Turn.{sized_of, body_of_lem};
 ghost use Rattle.bodies.specs.Ways.{holds, measured_of, reached_in, site_in, is_stub, kept_count};
@@ -19,18 +19,11 @@ use long_bodies::long_body::LongBody;
 use mask_rows::Window;
 use mask_rows::lent::Lent;
 use octets::out::Out;
-use reach::Site;
+use reach::Subrs;
 use renumber::Ranks;
 use renumber::body::Body;
 use subset::Way;
-
-// The subroutines of an INDEX: the globals, or the locals of an FD.
-// (It stays an enum: they are two kinds, and an Option is no plainer, since None would not say that the globals are meant.)
-#[derive(Clone, Copy)]
-pub enum Subrs {
-    Global,
-    Local(usize),
-}
+use unfold::Site;
 
 // Subroutines, and how they are written: the way, their INDEX, their bits, the bits of those that they call, and whether the rows rise.
 #[derive(Clone, Copy)]
@@ -59,7 +52,7 @@ fn is_reached(all: &Subroutines<'_>, k: usize) -> bool
 fn is_kept(all: &Subroutines<'_>, k: usize) -> bool
     ensures { result ≡ kept_of all.now k }
 {
-    if all.from.way.is_renumbered() {
+    if all.from.way == Way::Renumbered {
         return is_reached(all, k);
     }
     true
@@ -69,7 +62,7 @@ fn is_kept(all: &Subroutines<'_>, k: usize) -> bool
 fn is_stub(all: &Subroutines<'_>, k: usize) -> bool
     ensures { result ≡ is_stub all.now.from.way (reached_in all.now.words.now all.now.from.own) k }
 {
-    if all.from.way.is_stubbed() {
+    if all.from.way == Way::Stubbed {
         return !is_reached(all, k);
     }
     false
@@ -263,7 +256,7 @@ pub fn subrs_total(all: &Subroutines<'_>) -> Option<usize>
     if all.from.rising {
         return total_directly(all);
     }
-    if all.from.way.is_renumbered() {
+    if all.from.way == Way::Renumbered {
         return total_by_windows(all);
     }
     total_directly(all)
@@ -286,7 +279,7 @@ fn put_subr(one: &Subr<'_>, out: &mut Out<'_>)
 pub fn kept_count(way: Way, reached: usize, count: usize) -> usize
     ensures { result ≡ kept_count way reached count }
 {
-    if way.is_renumbered() {
+    if way == Way::Renumbered {
         return reached;
     }
     count
@@ -400,7 +393,7 @@ pub fn put_subrs(m: &Measured<'_>, out: &mut Out<'_>)
     if m.all.from.rising {
         return put_directly(m, out);
     }
-    if m.all.from.way.is_renumbered() {
+    if m.all.from.way == Way::Renumbered {
         return put_by_windows(m, out);
     }
     put_directly(m, out)

@@ -39,6 +39,7 @@ use Rattle.fds.specs.UsedLaws.{is_used}
 use Rattle.plan.specs.Sizes.{FdsUsed}
 use Rattle.plan.specs.FontLaws.{fds_at}
 use Rattle.faithful.specs.FontHeld.{FontHeld}
+use Rattle.renumber.specs.declared.Ranks.{Ranks}
 use Rattle.parts.specs.Ready.{PlanIn, bodies_for, Ready}
 use Rattle.parts.specs.declared.Planned.{Planned}
 use Rattle.outcome.specs.Entry.{cut_behind, Cut}
@@ -112,7 +113,7 @@ module _ (b : List ℕ) (o : Order) (held : FontHeld b o.f) (ws : List ℕ) wher
       fds_stay : fds_of (program_of b r.order.f) (glyphs_of b r.order.f new) ≡ fds_of p order
       fds_stay = ap (λ (f : Font). fds_of (program_of b f) (glyphs_of b f new)) same ∙ ap (fds_of p) stays
 
-      pub cid_ready : (tables : List ℕ) → Ready b rows used new r tables → 0 < o.count → o.f.cid ≡ true → CidReady b rows used new r tables
+      pub cid_ready : (tables : List Ranks) → Ready b rows used new r tables → 0 < o.count → o.f.cid ≡ true → CidReady b rows used new r tables
       cid_ready tables ready one keyed =
           record {
             ready = ready;

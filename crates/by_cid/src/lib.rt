@@ -97,7 +97,7 @@ pub fn prepare<'a, 'f: 'a, 'n: 'a>(
     ensures { CutsAs result (cut_behind false (program font.now.loaded) asked.now.name.now keep.now asked.now.rows.now (flag_of asked.now.traced)) }
 {
     let bytes = font.loaded.bytes;
-    let o = order_window::gather(bytes, font.loaded.f, keep, &mut *words, &mut *window);
+    let o = order_window::gather(&font.loaded, keep, &mut *words, &mut *window);
     let cut = plan_cut(
         o,
         bytes,

@@ -15,6 +15,7 @@ use Rattle.subset.specs.Subset.{own_by_name, own_by_cid, subset_by_name, subset_
 use Rattle.subset.specs.Cut.{own_of}
 use Rattle.order_window.specs.Window.{glyphs_of}
 use Rattle.own_strings.specs.declared.Own.{Own}
+use Rattle.renumber.specs.declared.Ranks.{Ranks}
 use Rattle.parts.specs.Ready.{bodies_for}
 use Rattle.parts.specs.declared.Planned.{Planned}
 use Rattle.outcome.specs.Layout.{named-length}
@@ -37,7 +38,7 @@ module _ (p : Program) (keyed : cid_keyed p.top ≡ false) where
 
 -- ---- measured, tested and written
 
-module _ (b : List ℕ) (rows : List Row) (used ws : List ℕ) (r : Planned) (table totals : List ℕ)
+module _ (b : List ℕ) (rows : List Row) (used ws : List ℕ) (r : Planned) (table : List Ranks) (totals : List ℕ)
     (g : NamedPlan b rows used ws r table totals) (name slots : List ℕ) (own : Own)
     (t : NamedStrings (program_of b r.order.f) (glyphs_of b r.order.f ws) slots own (length name)) (e : Encoding) (coding : NamedCodes e slots) (at : NamedPlaces)
     (placed : PlacedNamed (program_of b r.order.f) (coded_for e slots) name (glyphs_of b r.order.f ws) (bodies_for b rows used ws r) at) (out : List ℕ) where

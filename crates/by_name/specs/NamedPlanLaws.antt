@@ -23,6 +23,7 @@ use Rattle.own_strings.specs.declared.Own.{Own}
 use Rattle.own_strings.specs.Slots.{word_names, Different}
 use Rattle.name_strings.specs.Names.{NamesApart}
 use Rattle.fds.specs.Locals.{in_use_lem, fds_in}
+use Rattle.renumber.specs.declared.Ranks.{Ranks}
 use Rattle.parts.specs.Ready.{PlanIn, bodies_for, Ready, Summed}
 use Rattle.parts.specs.declared.Planned.{Planned}
 use Rattle.subset.specs.Codes.{Coded}
@@ -90,7 +91,7 @@ module _ (b : List ℕ) (o : Order) (ws window : List ℕ) (h : NamedCut b o ws 
         subst (λ (f : Font). NamesApart b f ws') (sym same)
         (record { apart = subst (λ (l : List ℕ). Different (word_names p.strings (packed p l))) (sym stays) h.apart.apart })
 
-    pub prepared_plan : (rows : List Row) (table totals : List ℕ) → Ready b rows used ws' r table → Summed b rows used ws' r table totals
+    pub prepared_plan : (rows : List Row) (table : List Ranks) (totals : List ℕ) → Ready b rows used ws' r table → Summed b rows used ws' r table totals
         → NamedPlan b rows used ws' r table totals
     prepared_plan rows table totals ready summed =
         record {

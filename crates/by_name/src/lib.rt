@@ -39,7 +39,7 @@ fn cut_planned(c: &mut NamedSubset<'_>, out: &mut [u8]) -> Result<Subsetted, Ref
     ensures { Cut (outcome_in c.old (length out.old)) out.old out.new result }
 {
     let how = c.parts.cut.plan.how;
-    let at = places_named(&*c);
+    let at = places_named(c.kept.font, c.kept.words, &c.parts, c.encoding);
     let end = at.end;
     if octets::LONGEST < end {
         return Err(Refusal::Subset);
@@ -136,7 +136,7 @@ pub fn prepare<'a, 'f: 'a, 'n: 'a>(
     ensures { CutsAs (cut_behind ask (program font.now.loaded) asked.now.name.now keep.now asked.now.rows.now (flag_of asked.now.traced)) result }
 {
     let bytes = font.loaded.bytes;
-    let o = order_window::gather(bytes, font.loaded.f, keep, &mut *words, &mut *window);
+    let o = order_window::gather(&font.loaded, keep, &mut *words, &mut *window);
     let coded = plan_cut(
         o,
         bytes,

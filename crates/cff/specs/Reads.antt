@@ -1,6 +1,6 @@
 -- What the code's answers say of a font (TN5176, section 2 and those of its parts): it holds positions where Font.antt holds lists. Each answer of the code is a refusal, which is then the step's
 -- own, or positions, and what stands there is then what the step got.
-use Rattle.std.specs.Prelude.{ℕ, ◌+◌, ◌-◌, ◌≤◌, ◌<◌, ◌≡◌, Bool, true, false, List, [], ◌∷◌, eqb, length, get_or, Result, Ok, Err}
+use Rattle.std.specs.Prelude.{ℕ, ◌+◌, ◌-◌, ◌≤◌, ◌<◌, ◌≡◌, Bool, true, false, ◌&&◌, List, [], ◌∷◌, eqb, length, position, Option, Result, Ok, Err}
 use Rattle.octets.specs.Pick.{pick}
 use Rattle.bits.specs.Bits.{words_for}
 use Rattle.octets.specs.Lists.{all_below, part_of}
@@ -21,6 +21,7 @@ use Rattle.cff.specs.declared.font.Parts.{Parts}
 use Rattle.cff.specs.declared.font.Font.{Font}
 use Rattle.charset.specs.declared.fd_select.FdSelect.{FdSelect}
 use Rattle.charset.specs.declared.Charset.{Charset}
+use Rattle.cff.specs.declared.private.PrivateWords.{PrivateWords}
 use Rattle.cff.specs.declared.private.SeenPrivate.{SeenPrivate}
 use Rattle.refusal.specs.declared.Refusal.{Refusal}
 use Rattle.refusal.specs.declared.Refusal.TheVariants.{Malformed}
@@ -57,24 +58,15 @@ ReadsPrivate b g (Err n) = g ≡ Err n
 ReadsPrivate b g (Ok q) = GoodPrivate b q × (g ≡ Ok (private_of b q))
 
 -- the Private DICT of a size at an offset was read, and the bits of its local subroutines take so many words
-pub record Known (b : List ℕ) (size offset words : ℕ) : Type 0 where
+pub record Known (b : List ℕ) (q : PrivateWords) : Type 0 where
   pub private : Private
-  pub few : words < 65536
-  pub counted : words_for (length private.locals) ≡ words
-  pub is : private_data b size offset ≡ Ok private
+  pub few : q.words < 65536
+  pub counted : words_for (length private.locals) ≡ q.words
+  pub is : private_data b q.size q.offset ≡ Ok private
 
--- those that are remembered, in a table of 128 places: the sizes, the offsets and the words; where none was put, 0 of each, which is no Private DICT
-pub record Remembers (b : List ℕ) (sizes offsets words : List ℕ) : Type 0 where
-  pub sizes_long : length sizes ≡ 128
-  pub offsets_long : length offsets ≡ 128
-  pub words_long : length words ≡ 128
-  pub known : (i : ℕ) → Known b (get_or sizes i 0) (get_or offsets i 0) (get_or words i 0)
-
--- the first place that has a size and an offset, or 128
-pub record Recalls (sizes offsets : List ℕ) (size offset place : ℕ) : Type 0 where
-  pub within : place ≤ 128
-  pub here : place < 128 → (get_or sizes place 0 ≡ size) × (get_or offsets place 0 ≡ offset)
-  pub first : (i : ℕ) → i < place → get_or sizes i 0 ≡ size → get_or offsets i 0 ≡ offset → ⊥
+-- the place of the first that has a size and an offset, if one has
+abbrev pub recall : List PrivateWords → ℕ → ℕ → Option ℕ
+recall last size offset = position (λ q. eqb q.size size && eqb q.offset offset) last
 
 -- the place for the next that is read, after one that stands at a place: round and round
 abbrev pub free_after : ℕ → ℕ → ℕ
@@ -86,7 +78,7 @@ fd_private b d = then (dict_of d) (λ es. private_at b (private_in es))
 
 abbrev pub ReadsNext : List ℕ → Result Private Refusal → Result SeenPrivate Refusal → Type 0
 ReadsNext b g (Err n) = g ≡ Err n
-ReadsNext b g (Ok l) = (k : Known b l.size l.offset l.words) × (g ≡ Ok k.private) × (l.place < 128)
+ReadsNext b g (Ok l) = (k : Known b l.read) × (g ≡ Ok k.private) × (l.place < 128)
 
 -- those of all FDs: the words of their local subroutines together
 abbrev pub ReadsLocals : Result (List Private) Refusal → Result ℕ Refusal → Type 0

@@ -1,12 +1,12 @@
 -- Laws of reading: one step's answer for the next, in place.
-use Rattle.std.specs.Prelude.{ℕ, zero, suc, ◌+◌, ◌*◌, ◌≤◌, ◌<◌, ◌≡◌, refl, Bool, true, false, ltb, eqb, length, get_or, set, replicate, None, Option, Some, Result, Ok, Err, IfOk}
-use Rattle.std.proofs.Common.{sym, ◌∙◌, add-one, lt-ltb, le-ltb, ltb-true, ltb-false, eqb-true, lit≤, lit<, length-set, drop-cons, get_or-set_same, get_or-set_other}
+use Rattle.std.specs.Prelude.{ℕ, zero, suc, ◌+◌, ◌*◌, ◌≤◌, ◌<◌, ◌≡◌, refl, Bool, true, false, ◌&&◌, All, eqb, length, get_or, replicate, None, Option, Some, Result, Ok, Err, IfOk}
+use Rattle.std.proofs.Common.{sym, ◌∙◌, add-one, lt-ltb, le-ltb, eqb-true, lit≤, lit<, drop-cons}
 use Rattle.std.proofs.Math.Path.{ap, subst}
 use mathlib.Core.List.{List, [], ◌∷◌}
 use native.Mathlib.Omega.{arith}
-use Rattle.std.proofs.lemmas.Bool.{eqb-false}
-use Rattle.std.proofs.Math.ListN.{drop, get_or-eq_default}
-use Rattle.std.proofs.lemmas.List.{length-replicate, get_or-replicate}
+use Rattle.std.proofs.lemmas.List.Elements.{All-get_or, All-replicate}
+use Rattle.std.proofs.lemmas.List.Quantifiers.{position-Some}
+use Rattle.std.proofs.Math.ListN.{drop}
 use Rattle.std.proofs.Math.Seq.{drop-nil}
 use Rattle.bits.specs.Bits.{words_for}
 use Rattle.octets.specs.Octets.{Octets}
@@ -22,8 +22,9 @@ use Rattle.dict.specs.Places.{refusal_of, listed, entries_of, Good as GoodDict}
 use Rattle.dict.proofs.LookupLaws.{good-entries}
 use Rattle.cff.specs.Font.{then, Private, index_got, locals_at, private_data, private_at, privates_at, empty_private}
 use Rattle.cff.specs.Find.{locals_words}
-use Rattle.cff.specs.Reads.{Holds, ReadsItems, private_of, no_private, ReadsPrivate, Known, Remembers, Recalls, fd_private, ReadsNext, ReadsLocals}
+use Rattle.cff.specs.Reads.{Holds, ReadsItems, private_of, no_private, ReadsPrivate, Known, recall, fd_private, ReadsNext, ReadsLocals}
 use Rattle.cff.specs.declared.private.PrivateAt.{PrivateAt}
+use Rattle.cff.specs.declared.private.PrivateWords.{PrivateWords}
 use Rattle.cff.specs.declared.private.SeenPrivate.{SeenPrivate}
 use Rattle.dict.specs.declared.PrivateEntry.{PrivateEntry}
 use Rattle.refusal.specs.declared.Refusal.{Refusal}
@@ -181,86 +182,44 @@ none-data b =
     rw (le-ltb (length b) 0 (omega arith))
     (then-got _ _ [] (dict-entries [] empty-dict ∙ ap Ok empty-entries))
 
-known-none : (b : List ℕ) → Known b 0 0 0
+-- none is remembered so
+abbrev pub no_words : PrivateWords
+no_words = record { size = 0; offset = 0; words = 0 }
+
+known-none : (b : List ℕ) → Known b no_words
 known-none b = record { private = empty_private; few = lit< tt; counted = refl; is = none-data b }
 
 pub next-none : (b : List ℕ) (s r : Result (Option PrivateEntry) Refusal) → r ≡ s → r ≡ Ok None → (x : Result SeenPrivate Refusal) → ReadsNext b (private_data b 0 0) x → ReadsNext b (private_at b s) x
 unfolding private_at
 next-none b s r e f x h = subst (λ g. ReadsNext b g x) (none-data b ∙ sym (ap (private_at b) (sym e ∙ f))) h
 
--- ---- the table of those that are remembered
+-- ---- those that are remembered
 
-module _ (sizes offsets : List ℕ) (size offset : ℕ) where
-  -- none of the places before one has them
-  abbrev pub Unlike : ℕ → Type 0
-  Unlike i = (j : ℕ) → j < i → get_or sizes j 0 ≡ size → get_or offsets j 0 ≡ offset → ⊥
+both : (s t : Bool) → (s && t) ≡ true → (s ≡ true) × (t ≡ true)
+both true true e = (refl, refl)
+both true false e = (refl, e)
+both false t e = absurd (no cc)
 
-  pub unlike-start : Unlike 0
-  unlike-start j h = absurd (no (omega arith))
-
-  pub unlike-more : (i : ℕ) → Unlike i → (get_or sizes i 0 ≡ size → get_or offsets i 0 ≡ offset → ⊥) → Unlike (i + 1)
-  unlike-more i u n j h e f = go (eqb j i) refl
-    where
-      go : (t : Bool) → eqb j i ≡ t → ⊥
-      go true t = let k : j ≡ i = eqb-true j i t in n (subst (λ (m : ℕ). get_or sizes m 0 ≡ size) k e) (subst (λ (m : ℕ). get_or offsets m 0 ≡ offset) k f)
-      go false t = u j (omega (arith, eqb-false j i t)) e f
-
--- at first all are 0
-zeros-at : (i : ℕ) → ◌≡◌ {A = ℕ} (get_or (replicate 128 0) i 0) 0
-zeros-at i = go (ltb i 128) refl
-  where
-    go : (t : Bool) → ltb i 128 ≡ t → ◌≡◌ {A = ℕ} (get_or (replicate 128 0) i 0) 0
-    go true t = get_or-replicate {A = ℕ} 128 i 0 0 (ltb-true i 128 t)
-    go false t = get_or-eq_default (replicate 128 0) 0 {n = i} (omega (arith, ltb-false i 128 t, length-replicate {A = ℕ} 128 0))
-
-pub remembers_none : (b : List ℕ) → Remembers b (replicate 128 0) (replicate 128 0) (replicate 128 0)
-remembers_none b =
-    let n = length-replicate {A = ℕ} 128 0 in
-    record { sizes_long = n; offsets_long = n; words_long = n; known = λ i. rw (zeros-at i) (known-none b) }
-
--- one more, at a place
-pub remembers_more : (b sizes offsets words : List ℕ) (size offset w place : ℕ) → Remembers b sizes offsets words → Known b size offset w
-    → place < 128 → Remembers b (set sizes place size) (set offsets place offset) (set words place w)
-remembers_more b sizes offsets words size offset w place m k h =
-    record {
-      sizes_long = length-set sizes place size ∙ m.sizes_long;
-      offsets_long = length-set offsets place offset ∙ m.offsets_long;
-      words_long = length-set words place w ∙ m.words_long;
-      known = λ i. go i (eqb place i) refl;
-    }
-  where
-    p : place < length sizes
-    p = omega (arith, m.sizes_long)
-
-    q : place < length offsets
-    q = omega (arith, m.offsets_long)
-
-    s : place < length words
-    s = omega (arith, m.words_long)
-
-    go : (i : ℕ) (t : Bool) → eqb place i ≡ t → Known b (get_or (set sizes place size) i 0) (get_or (set offsets place offset) i 0) (get_or (set words place w) i 0)
-    go i true t =
-        let e : place ≡ i = eqb-true place i t in
-        subst (λ (j : ℕ). Known b (get_or (set sizes place size) j 0) (get_or (set offsets place offset) j 0) (get_or (set words place w) j 0)) e
-        (rw (get_or-set_same sizes place size 0 p, get_or-set_same offsets place offset 0 q, get_or-set_same words place w 0 s) k)
-    go i false t =
-        let n : i ≡ place → ⊥ = λ e. eqb-false place i t (sym e) in
-        rw (get_or-set_other sizes place i size 0 n, get_or-set_other offsets place i offset 0 n, get_or-set_other words place i w 0 n) (m.known i)
+-- at first all are none
+pub known_start : (b : List ℕ) (n : ℕ) → All (Known b) (replicate n no_words)
+known_start b n = All-replicate (Known b) n no_words (known-none b)
 
 -- a Private DICT that is remembered
-pub next-seen : (b sizes offsets words : List ℕ) → Remembers b sizes offsets words → (size offset place : ℕ) → Recalls sizes offsets size offset place → place < 128
-    → ReadsNext b (private_data b size offset) (Ok (record { size = size; offset = offset; words = get_or words place 0; place = place }))
-next-seen b sizes offsets words m size offset place r h =
-    let e = r.here h in
-    let k : Known b size offset (get_or words place 0) = subst (λ x. Known b x offset (get_or words place 0)) e.0 (subst (λ x. Known b (get_or sizes place 0) x (get_or words place 0)) e.1 (m.known place)) in
-    (k, k.is, h)
+pub next-seen : (b : List ℕ) (last : List PrivateWords) → All (Known b) last → (size offset place : ℕ) → recall last size offset ≡ Some place → length last ≡ 128
+    → ReadsNext b (private_data b size offset) (Ok (record { read = get_or last place no_words; place = place }))
+next-seen b last known size offset place e long =
+    let q = get_or last place no_words in
+    let p = position-Some (λ (q : PrivateWords). eqb q.size size && eqb q.offset offset) last place no_words e in
+    let same = both (eqb q.size size) (eqb q.offset offset) p.1 in
+    let k = All-get_or (Known b) last place no_words p.0 known in
+    (k, subst (λ x. private_data b x offset ≡ Ok k.private) (eqb-true q.size size same.0) (subst (λ x. private_data b q.size x ≡ Ok k.private) (eqb-true q.offset offset same.1) k.is), omega (arith, p.0, long))
 
 -- a Private DICT that was found has few local subroutines
 pub few-locals : (b : List ℕ) (g : Result Private Refusal) (q : PrivateAt) → ReadsPrivate b g (Ok q) → q.locals.count < 4294967296
 few-locals b g q reads = let k = reads.0.locals.few in omega (arith, k)
 
 pub counted-found : (b : List ℕ) (size offset : ℕ) (q : PrivateAt) → ReadsPrivate b (private_data b size offset) (Ok q) → (w : ℕ) → w ≡ words_for q.locals.count → (place : ℕ)
-    → place < 128 → ReadsNext b (private_data b size offset) (Ok (record { size = size; offset = offset; words = w; place = place }))
+    → place < 128 → ReadsNext b (private_data b size offset) (Ok (record { read = record { size = size; offset = offset; words = w }; place = place }))
 counted-found b size offset q reads w is place low =
     (record { private = private_of b q; few = let k = reads.0.locals.few in omega (arith, is); counted = ap words_for (items-length b q.locals) ∙ sym is; is = reads.1 }, reads.1, low)
 
@@ -316,7 +275,7 @@ module _ (b : List ℕ) (items : List (List ℕ)) (total k : ℕ) (a : Adding b 
         refused_added (privates_at b items) n
         (a.rest ∙ ap (λ l. added total (privates_at b l)) split ∙ ap (added total) (privates-split b d (drop (k + 1) items) ∙ then_refused _ _ n reads))
 
-    pub adding_more : (l : SeenPrivate) → ReadsNext b (fd_private b d) (Ok l) → Adding b items (total + l.words) (k + 1)
+    pub adding_more : (l : SeenPrivate) → ReadsNext b (fd_private b d) (Ok l) → Adding b items (total + l.read.words) (k + 1)
     adding_more l reads =
         let f = reads.0.few in
         record {
@@ -325,7 +284,7 @@ module _ (b : List ℕ) (items : List (List ℕ)) (total k : ℕ) (a : Adding b 
           rest =
               a.rest ∙ ap (λ l. added total (privates_at b l)) split
               ∙ ap (added total) (privates-split b d (drop (k + 1) items) ∙ then-got _ (λ p. then (privates_at b (drop (k + 1) items)) (λ ps. Ok (p ∷ ps))) reads.0.private reads.1)
-              ∙ added-one total reads.0.private l.words (privates_at b (drop (k + 1) items)) reads.0.counted;
+              ∙ added-one total reads.0.private l.read.words (privates_at b (drop (k + 1) items)) reads.0.counted;
         }
 
   pub adding_over : length items ≤ k → length items < 65536 → ReadsLocals (privates_at b items) (Ok total)

@@ -24,12 +24,18 @@ pub struct PrivateAt {
     pub locals: Index,
 }
 
-// A Private DICT that was read, by its size and offset: how many words a bit for each of its local subroutines takes, and the place where it is remembered.
+// A Private DICT that was read, by its size and offset: how many words a bit for each of its local subroutines takes.
 #[derive(Clone, Copy)]
-pub struct SeenPrivate {
+pub struct PrivateWords {
     pub size: usize,
     pub offset: usize,
     pub words: usize,
+}
+
+// One that was read, and the place where it is remembered.
+#[derive(Clone, Copy)]
+pub struct SeenPrivate {
+    pub read: PrivateWords,
     pub place: usize,
 }
 
@@ -132,7 +138,7 @@ pub fn read_privates(font: &Table<'_>, dicts: Index) -> Result<usize, Refusal>
         let d = index::item(font.bytes, dicts, k);
         let l = seen.fd_private(d)?;
         seen.note(l);
-        total += l.words;
+        total += l.read.words;
     }
     Ok(total)
 }

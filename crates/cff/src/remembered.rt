@@ -1,35 +1,37 @@
 // The Private DICTs of FDs, read one after the other and remembered, so that FDs that share a few are read in one pass.
-ghost use Rattle.std.specs.Prelude.{◌≡◌, ◌<◌};
-ghost use Rattle.cff.specs.Reads.{Remembers, Recalls, free_after};
-ghost use Rattle.cff.specs.Alone.{remembers_prop};
+ghost use Rattle.std.specs.Prelude.{◌≡◌, ◌<◌, All};
+ghost use Rattle.cff.specs.Reads.{Known, recall, free_after};
+ghost use Rattle.cff.specs.Alone.{all_known_prop};
 
-use crate::private::{SeenPrivate, private_data};
+use crate::private::{PrivateWords, SeenPrivate, private_data};
 use crate::table::Table;
 use dict::PrivateEntry;
 use dict::placed::Dict;
 use refusal::Refusal;
 
-// The last 128 that were read: how long each is and where, and how many words the bits of its local subroutines take. And the place for the next.
+// The last 128 that were read, and the place for the next.
 #[derive(Drop)]
 pub struct Remembered<'a> {
     pub font: &'a Table<'a>,
-    pub sizes: [usize; 128],
-    pub offsets: [usize; 128],
-    pub words: [usize; 128],
+    pub last: [PrivateWords; 128],
     pub free: usize,
-    ghost known: { Remembers font.now sizes offsets words } by { remembers_prop font.now sizes offsets words },
+    ghost known: { All (Known font.now) last } by { all_known_prop font.now last },
     ghost within: { free < 128 },
 }
 
-// The first place of the tables that has a Private DICT of this size at this offset; 128 where none has.
-fn recall(sizes: &[usize; 128], offsets: &[usize; 128], size: usize, offset: usize) -> usize
-    ensures { Recalls sizes.now offsets.now size offset result }
+// What stands where none was put: that no Private DICT is named is taken as one of no bytes at 0.
+const NONE: PrivateWords = PrivateWords {
+    size: 0,
+    offset: 0,
+    words: 0,
+};
+
+// The place of the first that has this size and this offset, if one has.
+fn recall(last: &[PrivateWords; 128], size: usize, offset: usize) -> Option<usize>
+    ensures { result ≡ recall last.now size offset }
 {
-    sizes
-        .iter()
-        .zip(offsets)
-        .position(|(s, o)| *s == size && *o == offset)
-        .unwrap_or(128)
+    last.iter()
+        .position(|q| q.size == size && q.offset == offset)
 }
 
 // The place for the next Private DICT that is read, after one that is remembered at a place: those read first are forgotten first.
@@ -51,17 +53,15 @@ impl<'a> Remembered<'a> {
     ghost use Rattle.dict.specs.Lookup.{private_in};
     ghost use Rattle.dict.specs.Held.{entries};
     ghost use Rattle.cff.specs.Font.{private_data, private_at};
-    ghost use Rattle.cff.specs.Reads.{Known, fd_private, ReadsNext};
+    ghost use Rattle.cff.specs.Reads.{fd_private, ReadsNext};
 
-    // None so far: those of no bytes at 0.
+    // None so far.
     pub fn new(font: &'a Table<'a>) -> Remembered<'a>
         ensures { result.font.now ≡ font.now }
     {
         Remembered {
             font,
-            sizes: [0usize; 128],
-            offsets: [0usize; 128],
-            words: [0usize; 128],
+            last: [NONE; 128],
             free: 0,
         }
     }
@@ -75,9 +75,11 @@ impl<'a> Remembered<'a> {
         let locals = q.locals;
         let words = bits::words_for(locals.count);
         Ok(SeenPrivate {
-            size,
-            offset,
-            words,
+            read: PrivateWords {
+                size,
+                offset,
+                words,
+            },
             place: self.free,
         })
     }
@@ -87,17 +89,13 @@ impl<'a> Remembered<'a> {
         requires { (size ≤ 4294967296) × (offset ≤ 4294967296) }
         ensures { ReadsNext self.now.font.now (private_data self.now.font.now size offset) result }
     {
-        let place = recall(&self.sizes, &self.offsets, size, offset);
-        if place < 128 {
-            let known = self.words[place];
-            return Ok(SeenPrivate {
-                size,
-                offset,
-                words: known,
+        match recall(&self.last, size, offset) {
+            Some(place) => Ok(SeenPrivate {
+                read: self.last[place],
                 place,
-            });
+            }),
+            None => self.locals_of(size, offset),
         }
-        self.locals_of(size, offset)
     }
 
     // The next FD's Private DICT, as the FD's DICT d names it; where that names none, it is one of no bytes at 0.
@@ -120,13 +118,11 @@ impl<'a> Remembered<'a> {
 
     // One that was read is remembered: those read first are forgotten first.
     pub fn note(&mut self, l: SeenPrivate)
-        requires { (Known self.old.font.now l.size l.offset l.words) × (l.place < 128) }
+        requires { (Known self.old.font.now l.read) × (l.place < 128) }
         ensures { self.new.font.now ≡ self.old.font.now }
     {
         let place = l.place;
-        self.sizes[place] = l.size;
-        self.offsets[place] = l.offset;
-        self.words[place] = l.words;
+        self.last[place] = l.read;
         self.free = free_after(self.free, place);
     }
 }

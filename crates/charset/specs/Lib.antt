@@ -32,3 +32,6 @@ pub mod CodesExamples
 pub mod Examples
 pub mod Alone
 pub mod Ids
+pub mod Ahead
+pub mod AheadLaws
+pub mod Iter

@@ -5,6 +5,8 @@ ghost use Rattle.charset.specs.FdWriter.{writer_of, pushed, pushed_bytes, CanCou
 
 // An FDSelect under way: where it starts, the FD of the last glyph (256 before the first), how many ranges there are so far, where the next
 // one goes, and how many glyphs there were.
+// (That it can count on stays a clause: as a fact of the type it would ask more of `count_push`, whose answer may be a writer of 65,536 glyphs,
+// which cannot.)
 #[derive(Clone, Copy)]
 pub struct FdSelectWriter {
     pub start: usize,

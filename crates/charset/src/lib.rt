@@ -6,6 +6,7 @@ pub mod encoding;
 pub mod fd_select;
 pub mod fd_writer;
 pub mod ids;
+pub mod iter;
 
 ghost use Rattle.std.specs.Prelude.{◌≡◌, ◌+◌, ◌≤◌, ◌<◌, length, drop, get_or, Ok};
 ghost use Rattle.charset.specs.Listed.{numbers_of};

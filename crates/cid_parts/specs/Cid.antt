@@ -14,7 +14,9 @@ use Rattle.subset.specs.Subset.{private_parts, font_dicts, own_by_cid, cids_of, 
 use Rattle.subset.specs.Cut.{Outcome, refused, subset}
 use Rattle.order_window.specs.Window.{glyphs_of}
 use Rattle.glyph_tables.specs.Tables.{new_fds_by, Numbered}
+use Rattle.renumber.specs.declared.Ranks.{Ranks}
 use Rattle.private_dicts.specs.Privates.{font_dicts_by, Placed}
+use Rattle.private_dicts.specs.declared.part.Part.{Part}
 use Rattle.fds.specs.Locals.{fds_in}
 use Rattle.own_strings.specs.declared.Own.{Own}
 use Rattle.front.specs.Front.{SlotsReady, Measured, front_bytes}
@@ -88,17 +90,17 @@ module _ (b : List ℕ) (rows : List Row) (used ws : List ℕ) (r : Planned) whe
   bodies_in = bodies_for b rows used ws r
 
   -- what is ready: the bodies, and new numbers of the FDs
-  pub record CidReady (table : List ℕ) : Type 0 where
+  pub record CidReady (table : List Ranks) : Type 0 where
     pub ready : Ready b rows used ws r table
     pub keyed : r.order.f.cid ≡ true
     pub some : 0 < r.order.count
     pub numbered : Numbered used (fds_of program_in written_in)
     pub news : new_fds_by used (fds_of program_in written_in) ≡ new_fds program_in (fds_in used) written_in
 
-  -- the tables of the Font DICTs, the first Private part standing at a place
-  pub record DictsReady (fds sizes lens : List ℕ) (from : ℕ) : Type 0 where
-    pub placed : Placed program_in fds sizes lens from
-    pub are : font_dicts_by program_in fds sizes lens from ≡ font_dicts program_in from (fds_in used) bodies_in.locals
+  -- the parts by which the Font DICTs are written, the first Private part standing at a place
+  pub record DictsReady (fds : List ℕ) (parts : List Part) (from : ℕ) : Type 0 where
+    pub placed : Placed program_in fds parts from
+    pub are : font_dicts_by program_in fds parts from ≡ font_dicts program_in from (fds_in used) bodies_in.locals
 
   -- the Private parts from a place on are within what a subset may have
   abbrev pub PrivatesEnd : ℕ → Type 0

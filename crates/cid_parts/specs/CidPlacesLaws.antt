@@ -30,7 +30,9 @@ use Rattle.outcome.specs.Walked.{Walked}
 use Rattle.glyph_tables.specs.Tables.{kept_fds, new_fd_by, new_fds_by}
 use Rattle.fds.specs.Locals.{in_use_lem, fds_in}
 use Rattle.fds.specs.Parts.{SizesParts}
+use Rattle.renumber.specs.declared.Ranks.{Ranks}
 use Rattle.private_dicts.specs.Privates.{matrices_by}
+use Rattle.private_dicts.specs.declared.part.Part.{Part}
 use Rattle.bodies.specs.Ways.{kept_count}
 use Rattle.own_strings.specs.declared.Own.{Own}
 use Rattle.front.specs.Front.{SmallFont, SlotsReady, Measured, front_len}
@@ -113,7 +115,7 @@ pub select-walked : (b ws used : List ℕ) (o planned : Order) → Walked o plan
     → length (fd_select_bytes (new_fds_by used (kept_fds b o.f ws))) ≡ length (fd_select_bytes (new_fds_by used (kept_fds b planned.f ws)))
 select-walked b ws used o planned walked = ap (λ (f : Font). length (fd_select_bytes (new_fds_by used (kept_fds b f ws)))) walked.f
 
-module _ (b : List ℕ) (rows : List Row) (used ws : List ℕ) (r : Planned) (table : List ℕ)
+module _ (b : List ℕ) (rows : List Row) (used ws : List ℕ) (r : Planned) (table : List Ranks)
     (c : CidReady b rows used ws r table) where
   abbrev p : Program
   p = program_of b r.order.f
@@ -142,8 +144,7 @@ module _ (b : List ℕ) (rows : List Row) (used ws : List ℕ) (r : Planned) (ta
         let dicts = dicts-length b rows used ws table r c.ready totals summed in
         cid_length p name (fds_in used) order (bodies_in b rows used ws r) (dicts (cid_privates p name (fds_in used) order (bodies_in b rows used ws r)) ∙ sym (dicts 0))
 
-    module _ {oldSizes oldLens sizes lens : List ℕ} {all : ℕ} (s : SizesParts p r.how.way table totals used oldSizes oldLens sizes lens all)
-        (sized_long : 256 ≤ length oldSizes) (lens-long : 256 ≤ length oldLens) {fds : List ℕ} (listed : fds ≡ fds_in used)
+    module _ {old parts : List Part} {all : ℕ} (s : SizesParts p r.how.way table totals used old parts all) {fds : List ℕ} (listed : fds ≡ fds_in used)
         (count : ℕ) (counted : count ≡ length (fds_in used)) where
       module _ (name slots : List ℕ) (own : Own) (strings : StringsReady p slots own) (front globals select glyphs matrices : ℕ)
           (front_is : front ≡ front_len true 0 p.top slots (length name) own)
@@ -183,19 +184,19 @@ module _ (b : List ℕ) (rows : List Row) (used ws : List ℕ) (r : Planned) (ta
             (select-is ∙ ap (λ (l : List ℕ). length (fd_select_bytes l)) c.news)
             (glyphs-is ∙ glyphs_long b rows used ws table r c.ready)
             (matrices_long ∙ sym (dicts-length b rows used ws table r c.ready totals summed 0))
-            (all-parts b rows used ws table r c.ready totals summed s sized_long lens-long)
+            (all-parts b rows used ws table r c.ready totals summed s)
 
       -- what the Font DICTs ask, where they are within what a subset may have
       pub dicts_ready : (from : ℕ) → PrivatesEnd b rows used ws r from → (at : ℕ) → at + length (tail_bytes b rows used ws r from) ≤ 67108864
-          → DictsReady b rows used ws r fds sizes lens from
+          → DictsReady b rows used ws r fds parts from
       unfolding tail_bytes
       dicts_ready from l at small =
           let locals = (bodies_in b rows used ws r).locals in
           let dicts = index_bytes (font_dicts p from (fds_in used) locals) in
           record {
-            placed = dicts-placed b rows used ws table r c.ready totals summed s sized_long lens-long listed from l
+            placed = dicts-placed b rows used ws table r c.ready totals summed s listed from l
                 (omega (arith, small, length-append dicts (private_parts p (fds_in used) locals)));
-            are = dicts_are b rows used ws table r c.ready totals summed s sized_long lens-long listed from;
+            are = dicts_are b rows used ws table r c.ready totals summed s listed from;
           }
 
 -- ---- the outcome

@@ -21,7 +21,9 @@ use Rattle.outcome.specs.Walked.{Walked, charstrings-walked, same-charstrings}
 use Rattle.subset.specs.Pruned.{Bodies}
 use Rattle.subset.specs.Subset.{private_parts, font_dicts, own_by_cid, top_by_cid, cids_of, new_fds}
 use Rattle.glyph_tables.specs.Tables.{kept_cids, kept_fds, new_fds_by, Numbered}
+use Rattle.renumber.specs.declared.Ranks.{Ranks}
 use Rattle.private_dicts.specs.Privates.{font_dicts_by, Placed}
+use Rattle.private_dicts.specs.declared.part.Part.{Part}
 use Rattle.bodies.specs.Ways.{many_of, Room}
 use Rattle.glyph_bodies.specs.Charstrings.{CharstringsIn, charstrings_from}
 use Rattle.fds.specs.Locals.{fds_in}
@@ -59,7 +61,7 @@ three f g i s h l =
     append_assoc f (g ++ i) ((s ++ h) ++ l) ∙ ap (λ (x : List ℕ). f ++ x) (append_assoc g i ((s ++ h) ++ l))
     ∙ ap (λ (x : List ℕ). f ++ (g ++ (i ++ x))) (append_assoc s h l)
 
-module _ (b : List ℕ) (rows : List Row) (used ws : List ℕ) (r : Planned) (table : List ℕ) where
+module _ (b : List ℕ) (rows : List Row) (used ws : List ℕ) (r : Planned) (table : List Ranks) where
   abbrev p : Program
   p = program_of b r.order.f
 
@@ -108,7 +110,7 @@ module _ (b : List ℕ) (rows : List Row) (used ws : List ℕ) (r : Planned) (ta
   -- ---- the FD INDEX and the Private parts
 
   module _ (ready : Ready b rows used ws r table) (totals : List ℕ) (summed : Summed b rows used ws r table totals)
-      (fds sizes lens : List ℕ) (from : ℕ) (d : DictsReady b rows used ws r fds sizes lens from) (at : ℕ) (out : List ℕ)
+      (fds : List ℕ) (parts : List Part) (from : ℕ) (d : DictsReady b rows used ws r fds parts from) (at : ℕ) (out : List ℕ)
       (small : at + length (tail_bytes b rows used ws r from) ≤ 67108864) (room : at + length (tail_bytes b rows used ws r from) ≤ length out) where
     abbrev dicts : List ℕ
     dicts = index_bytes (font_dicts p from (fds_in used) bodies.locals)
@@ -116,8 +118,8 @@ module _ (b : List ℕ) (rows : List Row) (used ws : List ℕ) (r : Planned) (ta
     abbrev privates : List ℕ
     privates = private_parts p (fds_in used) bodies.locals
 
-    pub dicts-put : Placed p fds sizes lens from × (at < 4294967296)
-        × (at + length (index_bytes (font_dicts_by p fds sizes lens from)) ≤ length out)
+    pub dicts-put : Placed p fds parts from × (at < 4294967296)
+        × (at + length (index_bytes (font_dicts_by p fds parts from)) ≤ length out)
     unfolding tail_bytes
     dicts-put = (
       d.placed,
@@ -125,7 +127,7 @@ module _ (b : List ℕ) (rows : List Row) (used ws : List ℕ) (r : Planned) (ta
       subst (λ (l : List (List ℕ)). at + length (index_bytes l) ≤ length out) (sym d.are) (room-first (length out) at dicts privates room),
     )
 
-    module _ {mid : List ℕ} {q : ℕ} (w : Wrote out at (index_bytes (font_dicts_by p fds sizes lens from)) mid q) where
+    module _ {mid : List ℕ} {q : ℕ} (w : Wrote out at (index_bytes (font_dicts_by p fds parts from)) mid q) where
       listed : Wrote out at dicts mid q
       listed = wrote_as w (ap index_bytes d.are)
 

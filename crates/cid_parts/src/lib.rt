@@ -15,6 +15,7 @@ use fds::table::FdTable;
 use front::CidPlaces;
 use octets::out::Out;
 use private_dicts::fd_array::FdArray;
+use private_dicts::part::NO_PART;
 
 // The places of parts of these lengths: k glyphs have a charset of format 0, and so many FDs Font DICTs, each with a Private of 11 bytes, and
 // FontMatrix entries of so many bytes together.
@@ -64,10 +65,8 @@ pub fn places_cid(c: &mut CidSubset<'_>) -> CidPlaces
         used: parts.used,
         table: parts.table,
     };
-    let mut sizes = [0usize; 256];
-    let mut lens = [0usize; 256];
-    let way = r.how.way;
-    let all = fds::parts::part_sizes(way, &fds, parts.totals, &mut sizes, &mut lens);
+    let mut measured = [NO_PART; 256];
+    let all = fds::parts::part_sizes(r.how.way, &fds, parts.totals, &mut measured);
     let mut listed = [0usize; 256];
     fds::parts::list_used(parts.used, &mut listed);
     let array = FdArray {
@@ -143,16 +142,15 @@ fn put_tail(c: &CidSubset<'_>, from: usize, out: &mut Out<'_>)
         used: parts.used,
         table: parts.table,
     };
-    let mut sizes = [0usize; 256];
-    let mut lens = [0usize; 256];
-    fds::parts::part_sizes(how.way, &fds, parts.totals, &mut sizes, &mut lens);
+    let mut measured = [NO_PART; 256];
+    fds::parts::part_sizes(how.way, &fds, parts.totals, &mut measured);
     let mut listed = [0usize; 256];
     fds::parts::list_used(parts.used, &mut listed);
     let array = FdArray {
         font,
         fds: &listed[..cut.count],
     };
-    private_dicts::put_font_dicts(&array, &sizes, &lens, from, &mut *out);
+    private_dicts::put_font_dicts(&array, &measured, from, &mut *out);
     fds::privates::put_privates(how, &fds, words, parts.totals, parts.rows, out)
 }
 

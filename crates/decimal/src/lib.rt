@@ -41,7 +41,7 @@ pub struct NumberAt {
     pub next: usize,
 }
 
-// A number cut to 32 bits: its sign and its size.
+// A number cut to 32 bits: its sign and its size. type2_number `Scaled` counts 65536ths: one type for both would let them be mixed up.
 #[derive(Clone, Copy)]
 pub struct Signed {
     pub neg: bool,

@@ -1,9 +1,9 @@
 -- Where the last entries that reading asks for stand (TN5176, section 4: those of the top DICT, of a Font DICT and of a Private DICT), or those that
 -- subsetting asks for, noted in one pass over a DICT: a table has a slot for each of their operators.
-use Rattle.std.specs.Prelude.{ℕ, zero, suc, ◌<◌, ◌≡◌, Bool, true, false, List, [], ◌∷◌, eqb, length, get_or, Option, None}
+use Rattle.std.specs.Prelude.{ℕ, suc, ◌<◌, ◌≡◌, Bool, true, false, List, [], ◌∷◌, eqb, length, get_or, Option, None, Some}
 use Rattle.octets.specs.Pick.{pick}
 use Rattle.dict.specs.Op.{esc, private, subrs, paint_type, font_matrix, charstring_type, ros, cid_count}
-use Rattle.dict.specs.Places.{place_of, found_at}
+use Rattle.dict.specs.Places.{place_of}
 use Rattle.dict.specs.declared.OperandsAt.{OperandsAt}
 use Rattle.dict.specs.declared.Places.{Places}
 
@@ -25,15 +25,10 @@ unfoldable pub slot_of : List ℕ → ℕ → ℕ
 slot_of [] op = 0
 slot_of (x ∷ xs) op = pick (eqb x op) 0 (suc (slot_of xs op))
 
--- what a slot says: one more than the operands are, or 0 where there is no entry
-abbrev pub found_of : ℕ → ℕ → Option OperandsAt
-found_of start zero = None
-found_of start (suc n) = found_at start n
-
 -- each slot of a table has its operator's last entry
-pub record Notes (t : Bool) (b starts counts : List ℕ) : Type 0 where
-  pub each : (op : ℕ) → slot_of (asked t) op < length (asked t) → found_of (get_or starts (slot_of (asked t) op) 0) (get_or counts (slot_of (asked t) op) 0) ≡ place_of op b
+pub record Notes (t : Bool) (b : List ℕ) (last : List (Option OperandsAt)) : Type 0 where
+  pub each : (op : ℕ) → slot_of (asked t) op < length (asked t) → get_or last (slot_of (asked t) op) None ≡ place_of op b
 
 -- the entries stand where it was noted, if it was
-pub record Placed (b : List ℕ) (p : Places) : Type 0 where
-  pub notes : p.noted ≡ true → Notes p.subsetting b p.starts p.counts
+pub record Placed (b : List ℕ) (noted : Option Places) : Type 0 where
+  pub notes : (p : Places) → noted ≡ Some p → Notes p.subsetting b p.last

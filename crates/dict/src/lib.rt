@@ -5,12 +5,11 @@
 pub mod op;
 pub mod placed;
 
-ghost use Rattle.std.specs.Prelude.{◌≡◌, false, [], ◌∷◌, ◌+◌, ◌<◌, length, get_or};
+ghost use Rattle.std.specs.Prelude.{◌≡◌, [], ◌∷◌, ◌+◌, ◌<◌, length, get_or, None};
 ghost use Rattle.decimal.specs.Decimal.{nought};
 ghost use Rattle.dict.specs.Dict.{operator_at, token_at, entry_at, dict_of};
 ghost use Rattle.dict.specs.Lookup.{operands, private_as, ros_as};
 ghost use Rattle.dict.specs.Places.{token_told, entry_told, refusal_of, place_of, operands_at};
-ghost use Rattle.dict.specs.Noted.{found_of};
 ghost use Rattle.dict.specs.Held.{ReadsDict};
 
 use crate::op::{Op, slot};
@@ -41,14 +40,12 @@ pub struct OperandsAt {
     pub count: usize,
 }
 
-// Where the last entries that reading asks for stand, or those that subsetting asks for, each in the slot of its operator, with one more than its operands
-// are: 0 where there is no such entry. The slot behind is for all other operators. Where nothing was noted, an entry is found by a pass of its own.
+// Where the last entries that reading asks for stand, or those that subsetting asks for, each in the slot of its operator. The slot behind is for all
+// other operators. They stand before the flag: behind it they are not aligned, and a DICT of one entry takes half as long again.
 #[derive(Clone, Copy)]
 pub struct Places {
-    pub noted: bool,
+    pub last: [Option<OperandsAt>; 16],
     pub subsetting: bool,
-    pub starts: [usize; 16],
-    pub counts: [usize; 16],
 }
 
 // A Private entry: how long the Private DICT is, and where it is.
@@ -157,24 +154,20 @@ pub fn read_top(d: &[u8]) -> (Dict<'_>, Option<Refusal>)
 fn note_entries(d: &[u8], subsetting: bool) -> Result<Dict<'_>, Refusal>
     ensures { ReadsDict d.now result }
 {
-    let mut starts = [0usize; 16];
-    let mut counts = [0usize; 16];
+    let mut last = [None; 16];
     let mut at: usize = 0;
     while at < d.len() {
         let entry = read_entry(d, at)?;
         let j = slot(subsetting, entry.op);
-        starts[j] = at;
-        counts[j] = entry.count + 1;
+        last[j] = Some(OperandsAt {
+            start: at,
+            count: entry.count,
+        });
         at = entry.next;
     }
     Ok(Dict {
         bytes: d,
-        places: Places {
-            noted: true,
-            subsetting,
-            starts,
-            counts,
-        },
+        places: Some(Places { subsetting, last }),
     })
 }
 
@@ -205,30 +198,12 @@ fn find_entry(d: &[u8], op: usize) -> Option<OperandsAt>
 
 // A DICT of which nothing is noted.
 pub fn nowhere(d: &[u8]) -> Dict<'_>
-    ensures { (result.bytes.now ≡ d.now) × (result.places.noted ≡ false) }
+    ensures { (result.bytes.now ≡ d.now) × (result.places ≡ None) }
 {
     Dict {
         bytes: d,
-        places: Places {
-            noted: false,
-            subsetting: false,
-            starts: [0usize; 16],
-            counts: [0usize; 16],
-        },
+        places: None,
     }
-}
-
-// The place that is noted with a count.
-fn found_at(start: usize, count: usize) -> Option<OperandsAt>
-    ensures { result ≡ found_of start count }
-{
-    if count == 0 {
-        return None;
-    }
-    Some(OperandsAt {
-        start,
-        count: count - 1,
-    })
 }
 
 // The k-th operand from a position on, the first being the 0th; zero where there are not so many. How many are left is counted beside the cursor:

@@ -1,18 +1,16 @@
-// A DICT that was read: its bytes, where its entries stand in them, and what they say.
+// A DICT that was read: its bytes, where its entries stand in them, and what they say. Where nothing was noted, an entry is found by a pass of its own.
 ghost use Rattle.dict.specs.Noted.{Placed};
 ghost use Rattle.dict.specs.Alone.{placed_prop};
 
 use crate::op::{Op, slot, slots};
-use crate::{
-    OperandsAt, Places, PrivateEntry, RosEntry, find_entry, found_at, operand, private_at, ros_at,
-};
+use crate::{OperandsAt, Places, PrivateEntry, RosEntry, find_entry, operand, private_at, ros_at};
 use decimal::{Decimal, id_of, is_two, offset_of, to_u32};
 use refusal::Refusal;
 
 #[derive(Clone, Copy)]
 pub struct Dict<'a> {
     pub bytes: &'a [u8],
-    pub places: Places,
+    pub places: Option<Places>,
     ghost placed: { Placed bytes.now places } by { placed_prop bytes.now places },
 }
 
@@ -26,12 +24,10 @@ impl Dict<'_> {
     pub fn place(&self, op: usize) -> Option<OperandsAt>
         ensures { result ≡ place_of op self.now.bytes.now }
     {
-        let noted = self.places.noted;
-        let subsetting = self.places.subsetting;
-        let j = slot(subsetting, op);
-        if noted {
-            if j < slots(subsetting) {
-                return found_at(self.places.starts[j], self.places.counts[j]);
+        if let Some(places) = &self.places {
+            let j = slot(places.subsetting, op);
+            if j < slots(places.subsetting) {
+                return places.last[j];
             }
         }
         find_entry(self.bytes, op)

@@ -8,3 +8,4 @@ pub mod PrivateLaws
 pub mod ShortLaws
 pub mod DictRound
 pub mod EntriesRound
+pub mod Sinks

@@ -6,7 +6,6 @@ use Rattle.std.proofs.Math.Bool.{false}
 use Rattle.std.proofs.Math.ListN.{length-append}
 use Rattle.octets.specs.Octets.{Wrote}
 use Rattle.octets.specs.PutLaws.{wrote_then, wrote-length}
-use Rattle.decimal.specs.declared.Decimal.{Decimal}
 use Rattle.decimal.specs.Written.{int5_bytes}
 use Rattle.decimal_write.specs.IntLaws.{length_int5}
 use Rattle.dict.specs.Op.{private, subrs}
@@ -14,7 +13,7 @@ use Rattle.dict.specs.Lookup.{last_of}
 use Rattle.dict.specs.Places.{entries_of, place_of, operands_at, found_at}
 use Rattle.dict.proofs.LookupLaws.{none_last, found-last}
 use Rattle.dict.specs.declared.OperandsAt.{OperandsAt}
-use Rattle.dict_write.specs.Written.{op_bytes_lem, operands_bytes, entry_bytes, offset_entry, private_entry, copied_entry}
+use Rattle.dict_write.specs.Written.{op_bytes_lem, entry_bytes, offset_entry, private_entry, copied_entry}
 use Rattle.dict_write.specs.OpLaws.{op_one}
 
 -- ---- two writes in a row: room for the first, for the second, and both
@@ -29,26 +28,6 @@ room-then {old} {mid} {xs} {to} {p} ys w h =
 
 pub wrote-both : {old mid new xs ys : List ℕ} {to p q : ℕ} → to + length (xs ++ ys) ≤ length old → Wrote old to xs mid p → Wrote mid p ys new q → Wrote old to (xs ++ ys) new q
 wrote-both {old} {mid} {new} {xs} {ys} {to} {p} {q} h v w = wrote_then (omega (arith, length-append xs ys)) v w
-
--- ---- an entry: its operands and then its operator
-
-module _ (op : ℕ) (ds : List Decimal) where
-  pub entry_length : (n m : ℕ) → n ≡ length (operands_bytes ds) → m ≡ length (op_bytes_lem op) → n + m ≡ length (entry_bytes op ds)
-  unfolding entry_bytes
-  entry_length n m e f = rw length-append (omega arith)
-
-  pub entry-room : (size to : ℕ) → to + length (entry_bytes op ds) ≤ size → to + length (operands_bytes ds) ≤ size
-  unfolding entry_bytes
-  entry-room size to h = room-first size to (operands_bytes ds) (op_bytes_lem op) h
-
-  module _ (old mid : List ℕ) (to p : ℕ) (h : to + length (entry_bytes op ds) ≤ length old) (v : Wrote old to (operands_bytes ds) mid p) where
-    pub entry-then : p + length (op_bytes_lem op) ≤ length mid
-    unfolding entry_bytes
-    entry-then = room-then (op_bytes_lem op) v h
-
-    pub entry-wrote : (new : List ℕ) (q : ℕ) → Wrote mid p (op_bytes_lem op) new q → Wrote old to (entry_bytes op ds) new q
-    unfolding entry_bytes
-    entry-wrote new q w = wrote-both h v w
 
 -- ---- an offset and its operator
 

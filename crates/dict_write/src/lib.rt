@@ -1,6 +1,8 @@
 // Entries of a DICT written: the Rust's dict_op and DictWriter (write.rs), measured first. An entry of the font is copied from where its
-// operands stand.
+// operands stand. A walk over what is copied is one function: its sink counts or writes.
 #![tactic(auto)]
+
+mod sink;
 
 ghost use Rattle.std.specs.Prelude.{◌≡◌, true, ◌+◌, ◌≤◌, ◌<◌, length};
 ghost use Rattle.octets.specs.Out.{Writes};
@@ -10,8 +12,9 @@ ghost use Rattle.dict.specs.Places.{entries_of, operands_at};
 ghost use Rattle.dict.specs.Held.{entries};
 ghost use Rattle.dict_write.specs.Written.{op_bytes_lem, operands_bytes, entry_bytes, offset_entry, private_entry, copied_entry, private_bytes};
 
+use crate::sink::{Count, Sink};
 use decimal::number_at;
-use decimal_write::{number_len, put_int5, put_number};
+use decimal_write::put_int5;
 use dict::op::Op;
 use dict::placed::Dict;
 use dict::{OperandsAt, read_entry};
@@ -35,37 +38,10 @@ pub fn put_op(op: usize, out: &mut Out<'_>)
     out.num(op, op_len(op));
 }
 
-// How many bytes the operands take that stand from a position on.
-fn operands_len(d: &[u8], start: usize, count: usize) -> usize
-    requires { length d.now ≤ 67108864 }
-    ensures { result ≡ length (operands_bytes (operands_at count d.now start)) }
-{
-    let mut at = start;
-    let mut len: usize = 0;
-    for _ in 0..count {
-        if d.len() <= at {
-            return len;
-        }
-        match number_at(d, at) {
-            Ok(Some(number)) => {
-                len += number_len(number.value);
-                at = number.next;
-            }
-            Ok(None) => {
-                return len;
-            }
-            Err(_) => {
-                return len;
-            }
-        }
-    }
-    len
-}
-
 // The operands that stand from a position on, each in its shortest form.
-fn put_operands(d: &[u8], start: usize, count: usize, out: &mut Out<'_>)
-    requires { out.old.at + length (operands_bytes (operands_at count d.now start)) ≤ length out.old.bytes.now }
-    ensures { Writes out.old (operands_bytes (operands_at count d.now start)) out.new }
+fn operands<S: Sink>(d: &[u8], start: usize, count: usize, to: &mut S)
+    requires { S.room to.old (operands_bytes (operands_at count d.now start)) }
+    ensures { S.takes to.old (operands_bytes (operands_at count d.now start)) to.new }
 {
     let mut at = start;
     for _ in 0..count {
@@ -74,7 +50,7 @@ fn put_operands(d: &[u8], start: usize, count: usize, out: &mut Out<'_>)
         }
         match number_at(d, at) {
             Ok(Some(number)) => {
-                put_number(number.value, &mut *out);
+                to.number(number.value);
                 at = number.next;
             }
             Ok(None) => {
@@ -87,21 +63,31 @@ fn put_operands(d: &[u8], start: usize, count: usize, out: &mut Out<'_>)
     }
 }
 
-// How many bytes an entry takes whose operands stand from a position on.
+// An entry whose operands stand from a position on.
+fn entry<S: Sink>(d: &[u8], start: usize, count: usize, op: usize, to: &mut S)
+    requires { S.allows op × S.room to.old (entry_bytes op (operands_at count d.now start)) }
+    ensures { S.takes to.old (entry_bytes op (operands_at count d.now start)) to.new }
+{
+    operands(d, start, count, &mut *to);
+    to.op(op);
+}
+
+// How many bytes an entry takes, of any operator, its operands standing from a position on.
 pub fn entry_len(d: &[u8], start: usize, count: usize, op: usize) -> usize
     requires { length d.now ≤ 67108864 }
     ensures { (result ≡ length (entry_bytes op (operands_at count d.now start))) × (result ≤ 7000000000) }
 {
-    operands_len(d, start, count) + op_len(op)
+    let mut sum = Count { len: 0 };
+    entry(d, start, count, op, &mut sum);
+    sum.len
 }
 
-// An entry whose operands stand from a position on.
+// The entry, written.
 pub fn put_entry(d: &[u8], start: usize, count: usize, op: usize, out: &mut Out<'_>)
     requires { (is_operator op ≡ true) × (out.old.at + length (entry_bytes op (operands_at count d.now start)) ≤ length out.old.bytes.now) }
     ensures { Writes out.old (entry_bytes op (operands_at count d.now start)) out.new }
 {
-    put_operands(d, start, count, &mut *out);
-    put_op(op, out);
+    entry(d, start, count, op, out);
 }
 
 // How many bytes the last entry of an operator takes, 0 where there is none.
@@ -144,46 +130,41 @@ pub fn put_private_entry(size: usize, offset: usize, out: &mut Out<'_>)
     put_offset_entry(Op::PRIVATE, offset, out);
 }
 
-// How many bytes a Private DICT takes without its Subrs.
-pub fn private_len(d: &[u8]) -> usize
-    requires { length d.now ≤ 67108864 }
-    ensures { result ≡ length (private_bytes (entries_of d.now)) }
-{
-    let mut at: usize = 0;
-    let mut len: usize = 0;
-    while at < d.len() {
-        match read_entry(d, at) {
-            Ok(entry) => {
-                if entry.op != Op::SUBRS {
-                    len += entry_len(d, at, entry.count, entry.op);
-                }
-                at = entry.next;
-            }
-            Err(_) => {
-                return len;
-            }
-        }
-    }
-    len
-}
-
 // A Private DICT without its Subrs, its other entries in order.
-pub fn put_private(d: &[u8], out: &mut Out<'_>)
-    requires { out.old.at + length (private_bytes (entries_of d.now)) ≤ length out.old.bytes.now }
-    ensures { Writes out.old (private_bytes (entries_of d.now)) out.new }
+fn private<S: Sink>(d: &[u8], to: &mut S)
+    requires { S.room to.old (private_bytes (entries_of d.now)) }
+    ensures { S.takes to.old (private_bytes (entries_of d.now)) to.new }
 {
     let mut at: usize = 0;
     while at < d.len() {
         match read_entry(d, at) {
-            Ok(entry) => {
-                if entry.op != Op::SUBRS {
-                    put_entry(d, at, entry.count, entry.op, &mut *out);
+            Ok(read) => {
+                if read.op != Op::SUBRS {
+                    entry(d, at, read.count, read.op, &mut *to);
                 }
-                at = entry.next;
+                at = read.next;
             }
             Err(_) => {
                 return;
             }
         }
     }
+}
+
+// How many bytes a Private DICT takes without its Subrs.
+pub fn private_len(d: &[u8]) -> usize
+    requires { length d.now ≤ 67108864 }
+    ensures { result ≡ length (private_bytes (entries_of d.now)) }
+{
+    let mut sum = Count { len: 0 };
+    private(d, &mut sum);
+    sum.len
+}
+
+// The Private DICT without its Subrs, written.
+pub fn put_private(d: &[u8], out: &mut Out<'_>)
+    requires { out.old.at + length (private_bytes (entries_of d.now)) ≤ length out.old.bytes.now }
+    ensures { Writes out.old (private_bytes (entries_of d.now)) out.new }
+{
+    private(d, out);
 }

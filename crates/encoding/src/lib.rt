@@ -77,7 +77,7 @@ fn rename(kept: &mut Kept<'_>, slots: &[usize], named: &[usize], table: &mut [us
         × Stays kept.old kept.new }
 {
     let font = kept.font;
-    name_strings::octets_in(font);
+    order::octets_in(font);
     let strings = Items {
         bytes: font,
         ix: kept.o.f.strings,

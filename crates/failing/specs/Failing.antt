@@ -27,13 +27,13 @@ pub record FdsMarked (p : Program) (keep used : List ℕ) : Type 0 where
   pub each : (i : ℕ) → i < length keep → in_use_lem used (get_or p.fds (get_or keep i 0) 0) ≡ true
 
 -- the words hold the bits of all subroutines that rows have, each of which is there
-pub record Asks (b : List ℕ) (f : Font) (rows : List Row) (used ws : List ℕ) (globals : Ranks) (table : List ℕ) (rising : Bool) : Type 0 where
+pub record Asks (b : List ℕ) (f : Font) (rows : List Row) (used ws : List ℕ) (globals : Ranks) (table : List Ranks) (rising : Bool) : Type 0 where
   pub read : FontHeld b f
   pub narrow : Narrow rows
   pub ranked : AllRanked (program_of b f) rows used ws globals table
   pub numbered : every_numbered (program_of b f) rows (fds_in used) ≡ true
   pub order : rising ≡ true → rises rows ≡ true
-  pub table_long : 1280 ≤ length table
+  pub table_long : 256 ≤ length table
 
 -- the first of some glyphs whose charstring cannot be renumbered
 unfoldable pub first_failing : Program → List Row → List ℕ → Option ℕ

@@ -29,7 +29,7 @@ use Rattle.subset.specs.Pruned.{local_set, global_set, calls_in, renumbered_body
 use Rattle.faithful.specs.KeptLaws.{kept_is}
 use Rattle.faithful.specs.UsedLaws.{fd_there}
 use Rattle.reach.specs.Reach.{rises}
-use Rattle.reach.specs.declared.Site.TheVariants.{Glyph}
+use Rattle.unfold.specs.declared.Site.TheVariants.{Glyph}
 use Rattle.renumber.specs.Ranks.{calls_by, Ranked}
 use Rattle.renumber.specs.RanksLaws.{HoldsRanks, calls-in}
 use Rattle.renumber.specs.Turn.{Inputs, sized_of}
@@ -140,7 +140,7 @@ numbered_in p rows (y ∷ fs) x e h =
     let b = both_hold (numbered p rows y) (all_numbered p rows fs) e in
     ⊎_elim (λ z. ap (numbered p rows) (sym z) ∙ b.0) (λ m. numbered_in p rows fs x b.1 m) (in_cases y x fs h)
 
-module _ (b : List ℕ) (f : Font) (rows : List Row) (used ws : List ℕ) (globals : Ranks) (table : List ℕ) (rising : Bool) (a : Asks b f rows used ws globals table rising) where
+module _ (b : List ℕ) (f : Font) (rows : List Row) (used ws : List ℕ) (globals : Ranks) (table : List Ranks) (rising : Bool) (a : Asks b f rows used ws globals table rising) where
   abbrev q : Program
   q = program_of b f
 
@@ -298,7 +298,7 @@ module _ (b : List ℕ) (f : Font) (read : FontHeld b f) (keep rec : List ℕ) (
       omega (arith, room, n)
 
   -- what is asked once all subroutines are ranked
-  pub asks_made : (octets : Octets rec) (used old ws table : List ℕ) (ranked : RankedAll) → RanksAll o (rows_of rec) used old ws table ranked → ranked.all ≡ true → 1280 ≤ length table
+  pub asks_made : (octets : Octets rec) (used old ws : List ℕ) (table : List Ranks) (ranked : RankedAll) → RanksAll o (rows_of rec) used old ws table ranked → ranked.all ≡ true → 256 ≤ length table
       → (rising : Bool) → rising ≡ rises (rows_of rec) → Asks b f (rows_of rec) used ws ranked.globals table rising
   asks_made octets used old ws table ranked s all t rising e =
       record { read = read; narrow = narrow_rows rec octets; ranked = s.ranked; numbered = sym s.told ∙ all; order = λ u. sym e ∙ u; table_long = t }

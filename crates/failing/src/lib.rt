@@ -17,10 +17,11 @@ ghost use Rattle.failing.specs.Failing.{FdsMarked, first_failing, Recorded, Only
 
 use crate::list::KeepList;
 use crate::renumbering::Renumbering;
+use bodies::NO_RANKS;
 use faithful::read::Held;
 use fds::in_use::InUse;
-use reach::Site;
 use renumber::body::Body;
+use unfold::Site;
 
 // Marks the FD of a glyph as in use.
 fn mark_fd(font: &Held<'_>, g: usize, used: &mut [u32])
@@ -54,7 +55,7 @@ fn is_made(by: &Renumbering<'_>, g: usize) -> bool
     let select = font.f.select;
     let charstrings = font.f.charstrings;
     let fd = charset::fd_select::fd_of(font.bytes, select, g) as usize;
-    let locals = bodies::ranks_in(by.table, fd);
+    let locals = by.table[fd];
     let body = Body {
         code: index::item(font.bytes, charstrings, g),
         words: by.words,
@@ -90,7 +91,7 @@ pub fn only_culprit(list: &KeepList<'_, '_>, rows: &[u8], words: &mut [u32]) -> 
 {
     let mut used = [0u32; 256];
     mark_fds(list, &mut used);
-    let mut table = [0usize; 1280];
+    let mut table = [NO_RANKS; 256];
     let fds = InUse {
         font: list.font.loaded,
         used: &used,

@@ -14,7 +14,7 @@ pub struct Renumbering<'a> {
     pub used: &'a [u32],
     pub globals: Ranks,
     pub words: &'a [u32],
-    pub table: &'a [usize],
+    pub table: &'a [Ranks],
     pub rows: &'a [u8],
     pub rising: bool,
     ghost marked: { FdsMarked (program list.font.loaded) list.keep.now used.now } by { fds_marked_prop (program list.font.loaded) list.keep.now used.now },

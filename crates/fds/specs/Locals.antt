@@ -1,6 +1,6 @@
 -- The local subroutines of the FDs in use, as the code holds them (document 02, Wish 7: a bit for each in the work words): a table tells by FD
 -- which are in use, and another where the bits of their locals stand in the work words (bodies `ranks_in`).
-use Rattle.std.specs.Prelude.{ℕ, ◌+◌, ◌<◌, ◌≡◌, Bool, true, false, not, List, [], ◌∷◌, ◌++◌, eqb, length, get_or, set}
+use Rattle.std.specs.Prelude.{ℕ, ◌+◌, ◌<◌, ◌≡◌, Bool, true, false, not, List, [], ◌∷◌, ◌++◌, eqb, length, get_or}
 use Rattle.octets.specs.Pick.{pick}
 use Rattle.octets.specs.Octets.{put}
 use Rattle.unfold.specs.Unfold.{Row}
@@ -62,21 +62,17 @@ fd_ranks p rows at f = ranks_at (local_set rows f) at (length (locals_of p f))
 abbrev pub ranked_locals : Program → List Row → ℕ → ℕ → RankedLocals
 ranked_locals p rows at f = record { own = fd_ranks p rows at f; all = numbered p rows f }
 
--- the table, once it tells the bits of an FD
-abbrev pub with_ranks : List ℕ → ℕ → Ranks → List ℕ
-with_ranks table f q = set (set (set (set (set table f q.at) (256 + f) q.count) (512 + f) q.reached) (768 + f) q.low) (1024 + f) q.high
-
 module _ (p : Program) (rows : List Row) (used : List ℕ) (at : ℕ) where
   -- the table tells an FD's own: the bits of the FDs before it stand in front
-  abbrev pub RankedFd : List ℕ → ℕ → Type 0
+  abbrev pub RankedFd : List Ranks → ℕ → Type 0
   RankedFd table f = ranks_in table f ≡ fd_ranks p rows (at + locals_for p (used_below used f)) f
 
   -- the table tells those in use below n
-  abbrev pub RankedFds : List ℕ → ℕ → Type 0
+  abbrev pub RankedFds : List Ranks → ℕ → Type 0
   RankedFds table n = (f : ℕ) → f < n → in_use_lem used f ≡ true → RankedFd table f
 
   -- the words hold the bits from `at` on, and the table tells where; and whether the record has no other number
-  pub record RanksLocals (old new table : List ℕ) (all : Bool) : Type 0 where
+  pub record RanksLocals (old new : List ℕ) (table : List Ranks) (all : Bool) : Type 0 where
     pub words : new ≡ put old at (bits_for p rows (fds_in used))
     pub tables : RankedFds table 256
     pub told : all ≡ all_numbered p rows (fds_in used)

@@ -1,7 +1,7 @@
 -- Laws of ranking the locals of the FDs in use, FD by FD.
-use Rattle.std.specs.Prelude.{ℕ, ◌+◌, ◌≤◌, ◌<◌, ◌≡◌, Bool, true, false, List, ◌++◌, eqb, length, get_or, set}
+use Rattle.std.specs.Prelude.{ℕ, ◌+◌, ◌≤◌, ◌<◌, ◌≡◌, Bool, true, false, List, ◌++◌, eqb, length, set}
 use Rattle.std.proofs.Math.Path.{refl, sym}
-use Rattle.std.proofs.Common.{ap, ◌∙◌, subst, length-set, get_or-set_same, get_or-set_other}
+use Rattle.std.proofs.Common.{ap, ◌∙◌, subst, get_or-set_same, get_or-set_other}
 use native.Mathlib.Omega.{arith}
 use Rattle.octets.specs.Pick.{pick}
 use Rattle.octets.specs.Octets.{put}
@@ -22,9 +22,9 @@ use Rattle.reach.specs.declared.ranks.Ranked.{Ranked}
 use Rattle.reach.specs.Cases.{by_number}
 use Rattle.renumber.specs.Ranks.{ranks_at}
 use Rattle.renumber.specs.declared.Ranks.{Ranks}
-use Rattle.bodies.specs.Ways.{ranks_in}
+use Rattle.bodies.specs.Ways.{no_ranks, ranks_in}
 use Rattle.fds.specs.declared.RankedLocals.{RankedLocals}
-use Rattle.fds.specs.Locals.{in_use_lem, used_below, locals_for, fd_bits, bits_for, numbered, all_numbered, fd_ranks, ranked_locals, with_ranks, RankedFd, RankedFds, RanksLocals}
+use Rattle.fds.specs.Locals.{in_use_lem, used_below, locals_for, fd_bits, bits_for, numbered, all_numbered, fd_ranks, ranked_locals, RankedFd, RankedFds, RanksLocals}
 use Rattle.fds.specs.UsedLaws.{used-next, unused_next, locals-last, bits_last, numbered-last, bits_length, locals-few, locals-within, unused_apart}
 
 -- ---- one FD
@@ -53,93 +53,22 @@ fd-ranked p rows fd count words new at r e h = (
       ∙ ap (λ (k : ℕ). answer (ranks_at (local_set rows fd) at k) (eqb (reached (local_set rows fd)) (count_below (local_set rows fd) k))) e,
 )
 
--- ---- the table
-
-module _ (table : List ℕ) (long : 1280 ≤ length table) (fd : ℕ) (below : fd < 256) (q : Ranks) where
-  abbrev t₁ : List ℕ
-  t₁ = set table fd q.at
-
-  abbrev t₂ : List ℕ
-  t₂ = set t₁ (256 + fd) q.count
-
-  abbrev t₃ : List ℕ
-  t₃ = set t₂ (512 + fd) q.reached
-
-  abbrev t₄ : List ℕ
-  t₄ = set t₃ (768 + fd) q.low
-
-  abbrev t₅ : List ℕ
-  t₅ = set t₄ (1024 + fd) q.high
-
-  l₁ : length t₁ ≡ length table
-  l₁ = length-set table fd q.at
-
-  l₂ : length t₂ ≡ length table
-  l₂ = length-set t₁ (256 + fd) q.count ∙ l₁
-
-  l₃ : length t₃ ≡ length table
-  l₃ = length-set t₂ (512 + fd) q.reached ∙ l₂
-
-  l₄ : length t₄ ≡ length table
-  l₄ = length-set t₃ (768 + fd) q.low ∙ l₃
-
-  pub ranks_long : length (with_ranks table fd q) ≡ length table
-  ranks_long = length-set t₄ (1024 + fd) q.high ∙ l₄
-
-  -- a place of another column
-  over₅ : (k : ℕ) → k < 1024 → get_or t₅ k 0 ≡ get_or t₄ k 0
-  over₅ k h = get_or-set_other t₄ (1024 + fd) k q.high 0 (λ d. let y : ⊥ = omega arith in y)
-
-  over₄ : (k : ℕ) → k < 768 → get_or t₅ k 0 ≡ get_or t₃ k 0
-  over₄ k h = over₅ k (omega arith) ∙ get_or-set_other t₃ (768 + fd) k q.low 0 (λ d. let y : ⊥ = omega arith in y)
-
-  over₃ : (k : ℕ) → k < 512 → get_or t₅ k 0 ≡ get_or t₂ k 0
-  over₃ k h = over₄ k (omega arith) ∙ get_or-set_other t₂ (512 + fd) k q.reached 0 (λ d. let y : ⊥ = omega arith in y)
-
-  over₂ : (k : ℕ) → k < 256 → get_or t₅ k 0 ≡ get_or t₁ k 0
-  over₂ k h = over₃ k (omega arith) ∙ get_or-set_other t₁ (256 + fd) k q.count 0 (λ d. let y : ⊥ = omega arith in y)
-
-  -- what it tells of the FD
-  pub ranks-put : ranks_in (with_ranks table fd q) fd ≡ q
-  ranks-put =
-      let a : get_or t₅ fd 0 ≡ q.at = over₂ fd below ∙ get_or-set_same table fd q.at 0 (omega arith) in
-      let b : get_or t₅ (256 + fd) 0 ≡ q.count = over₃ (256 + fd) (omega arith) ∙ get_or-set_same t₁ (256 + fd) q.count 0 (omega (arith, l₁)) in
-      let c : get_or t₅ (512 + fd) 0 ≡ q.reached = over₄ (512 + fd) (omega arith) ∙ get_or-set_same t₂ (512 + fd) q.reached 0 (omega (arith, l₂)) in
-      let d : get_or t₅ (768 + fd) 0 ≡ q.low = over₅ (768 + fd) (omega arith) ∙ get_or-set_same t₃ (768 + fd) q.low 0 (omega (arith, l₃)) in
-      let e : get_or t₅ (1024 + fd) 0 ≡ q.high = get_or-set_same t₄ (1024 + fd) q.high 0 (omega (arith, l₄)) in
-      λ i. record { at = a i; count = b i; reached = c i; low = d i; high = e i }
-
-  -- and of another: what it told
-  apart : (k : ℕ) → (k ≡ fd → ⊥) → (k ≡ 256 + fd → ⊥) → (k ≡ 512 + fd → ⊥) → (k ≡ 768 + fd → ⊥) → (k ≡ 1024 + fd → ⊥) → get_or t₅ k 0 ≡ get_or table k 0
-  apart k a b c d e =
-      get_or-set_other t₄ (1024 + fd) k q.high 0 e ∙ get_or-set_other t₃ (768 + fd) k q.low 0 d ∙ get_or-set_other t₂ (512 + fd) k q.reached 0 c
-      ∙ get_or-set_other t₁ (256 + fd) k q.count 0 b ∙ get_or-set_other table fd k q.at 0 a
-
-  pub ranks_other : (f : ℕ) → f < 256 → (f ≡ fd → ⊥) → ranks_in (with_ranks table fd q) f ≡ ranks_in table f
-  ranks_other f h n =
-      let a = apart f n (λ d. let y : ⊥ = omega arith in y) (λ d. let y : ⊥ = omega arith in y) (λ d. let y : ⊥ = omega arith in y) (λ d. let y : ⊥ = omega arith in y) in
-      let b = apart (256 + f) (λ d. let y : ⊥ = omega arith in y) (λ d. n (omega arith)) (λ d. let y : ⊥ = omega arith in y) (λ d. let y : ⊥ = omega arith in y) (λ d. let y : ⊥ = omega arith in y) in
-      let c = apart (512 + f) (λ d. let y : ⊥ = omega arith in y) (λ d. let y : ⊥ = omega arith in y) (λ d. n (omega arith)) (λ d. let y : ⊥ = omega arith in y) (λ d. let y : ⊥ = omega arith in y) in
-      let d = apart (768 + f) (λ d. let y : ⊥ = omega arith in y) (λ d. let y : ⊥ = omega arith in y) (λ d. let y : ⊥ = omega arith in y) (λ d. n (omega arith)) (λ d. let y : ⊥ = omega arith in y) in
-      let e = apart (1024 + f) (λ d. let y : ⊥ = omega arith in y) (λ d. let y : ⊥ = omega arith in y) (λ d. let y : ⊥ = omega arith in y) (λ d. let y : ⊥ = omega arith in y) (λ d. n (omega arith)) in
-      λ i. record { at = a i; count = b i; reached = c i; low = d i; high = e i }
-
 -- ---- FD by FD
 
 module _ (p : Program) (rows : List Row) (used : List ℕ) (at : ℕ) (old : List ℕ) where
   -- the locals of the FDs in use below fd are ranked
-  pub record Ranking (words table : List ℕ) (place : ℕ) (all : Bool) (fd : ℕ) : Type 0 where
+  pub record Ranking (words : List ℕ) (table : List Ranks) (place : ℕ) (all : Bool) (fd : ℕ) : Type 0 where
     pub held : words ≡ put old at (bits_for p rows (used_below used fd))
     pub stands : place ≡ at + locals_for p (used_below used fd)
     pub tables : RankedFds p rows used at table fd
     pub told : all ≡ all_numbered p rows (used_below used fd)
 
-  pub ranking_start : (table : List ℕ) → Ranking old table at true 0
+  pub ranking_start : (table : List Ranks) → Ranking old table at true 0
   unfolding those bits_for locals_for all_numbered
   ranking_start table =
       record { held = sym (put_nil old at); stands = omega arith; tables = λ f h e. absurd (let y : ⊥ = omega arith in y); told = refl }
 
-  module _ (room : at + locals_words p.privates ≤ length old) (words table : List ℕ) (place : ℕ) (all : Bool) (fd : ℕ)
+  module _ (room : at + locals_words p.privates ≤ length old) (words : List ℕ) (table : List Ranks) (place : ℕ) (all : Bool) (fd : ℕ)
       (h : Ranking words table place all fd) where
     pub ranking_length : length words ≡ length old
     ranking_length =
@@ -165,11 +94,11 @@ module _ (p : Program) (rows : List Row) (used : List ℕ) (at : ℕ) (old : Lis
         }
 
     -- an FD in use
-    module _ (e : in_use_lem used fd ≡ true) (long : 1280 ≤ length table) (below : fd < 256)
+    module _ (e : in_use_lem used fd ≡ true) (long : 256 ≤ length table) (below : fd < 256)
         (r : RankedLocals) (is : r ≡ ranked_locals p rows place fd) (new : List ℕ) (w : new ≡ put words place (fd_bits p rows fd)) where
-      here : RankedFd p rows used at (with_ranks table fd r.own) fd
+      here : RankedFd p rows used at (set table fd r.own) fd
       here =
-          ranks-put table long fd below r.own ∙ ap (λ (x : RankedLocals). x.own) is ∙ ap (λ (k : ℕ). fd_ranks p rows k fd) h.stands
+          get_or-set_same table fd r.own no_ranks (omega arith) ∙ ap (λ (x : RankedLocals). x.own) is ∙ ap (λ (k : ℕ). fd_ranks p rows k fd) h.stands
 
       written : new ≡ put old at (bits_for p rows (used_below used fd) ++ fd_bits p rows fd)
       written =
@@ -179,7 +108,7 @@ module _ (p : Program) (rows : List Row) (used : List ℕ) (at : ℕ) (old : Lis
           ∙ ap (λ (i : ℕ). put (put old at (bits_for p rows (used_below used fd))) i (fd_bits p rows fd)) n
           ∙ put-put old at (bits_for p rows (used_below used fd)) (fd_bits p rows fd) k
 
-      pub ranking_take : (both : Bool) → both ≡ pick all r.all false → (n : ℕ) → n ≡ words_for r.own.count → (after : List ℕ) → after ≡ with_ranks table fd r.own
+      pub ranking_take : (both : Bool) → both ≡ pick all r.all false → (n : ℕ) → n ≡ words_for r.own.count → (after : List Ranks) → after ≡ set table fd r.own
           → Ranking new after (place + n) both (fd + 1)
       ranking_take both b n m after t =
           let u = used-next used fd e in
@@ -188,15 +117,15 @@ module _ (p : Program) (rows : List Row) (used : List ℕ) (at : ℕ) (old : Lis
           record {
             held = written ∙ ap (put old at) (sym (ap (bits_for p rows) u ∙ bits_last p rows (used_below used fd) fd));
             stands = omega (arith, h.stands, ap (locals_for p) u, locals-last p rows (used_below used fd) fd);
-            tables = λ f k v. ap (λ (l : List ℕ). ranks_in l f) t
-                ∙ by_number f fd (λ s. subst (λ (i : ℕ). RankedFd p rows used at (with_ranks table fd r.own) i) (sym s) here)
-                (λ x. ranks_other table long fd below r.own f (omega arith) x ∙ h.tables f (omega arith) v);
+            tables = λ f k v. ap (λ (l : List Ranks). ranks_in l f) t
+                ∙ by_number f fd (λ s. subst (λ (i : ℕ). RankedFd p rows used at (set table fd r.own) i) (sym s) here)
+                (λ x. get_or-set_other table fd f r.own no_ranks x ∙ h.tables f (omega arith) v);
             told = b ∙ ap (λ (t : Bool). pick t r.all false) h.told ∙ ap (λ (t : Bool). pick (all_numbered p rows (used_below used fd)) t false) a
                 ∙ sym (ap (all_numbered p rows) u ∙ numbered-last p rows (used_below used fd) fd);
           }
 
   -- all FDs were passed
-  pub ranking_done : (words table : List ℕ) (place : ℕ) (all : Bool) (fd : ℕ) → Ranking words table place all fd → fd ≡ 256
+  pub ranking_done : (words : List ℕ) (table : List Ranks) (place : ℕ) (all : Bool) (fd : ℕ) → Ranking words table place all fd → fd ≡ 256
       → RanksLocals p rows used at old words table all
   ranking_done words table place all fd h e =
       let g = subst (Ranking words table place all) e h in

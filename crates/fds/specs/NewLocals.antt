@@ -1,6 +1,6 @@
 -- The new local subroutines of the FDs in use by the way (document 01, 'Corners in write.rs'), over the ranks that the work words and the
 -- tables hold.
-use Rattle.std.specs.Prelude.{ℕ, ◌+◌, ◌≤◌, ◌<◌, ◌≡◌, Bool, true, List, length, get_or, Option}
+use Rattle.std.specs.Prelude.{ℕ, ◌≤◌, ◌<◌, ◌≡◌, Bool, true, List, length, get_or, Option}
 use Rattle.index.specs.Write.{total}
 use Rattle.unfold.specs.Unfold.{Row, local}
 use Rattle.cff.specs.Font.{Program}
@@ -30,7 +30,7 @@ pub record FdIn (b : List ℕ) (p : Program) (ws : List ℕ) (own globals : Rank
   pub global_ranks : Ranked ws globals
   pub order : rising ≡ true → rises rows ≡ true
 
-module _ (way : Way) (p : Program) (rows : List Row) (ws table : List ℕ) (globals : Ranks) where
+module _ (way : Way) (p : Program) (rows : List Row) (ws : List ℕ) (table : List Ranks) (globals : Ranks) where
   -- those of an FD by the tables
   abbrev pub locals_by : ℕ → Option (List (List ℕ))
   locals_by f = locals_with way p rows ws (ranks_in table f) globals f
@@ -45,15 +45,15 @@ module _ (way : Way) (p : Program) (rows : List Row) (ws table : List ℕ) (glob
     pub few : all ≡ true → (f : ℕ) → f < 256 → in_use_lem used f ≡ true → get_or totals f 0 ≤ 21989897011200
 
 -- tables of all FDs: which of the font are in use, and where the bits of their local subroutines stand
-pub record Tables (b : List ℕ) (p : Program) (used table : List ℕ) : Type 0 where
+pub record Tables (b : List ℕ) (p : Program) (used : List ℕ) (table : List Ranks) : Type 0 where
   pub size : length b ≤ 67108864
   pub used_long : 256 ≤ length used
-  pub table_long : 1280 ≤ length table
+  pub table_long : 256 ≤ length table
   pub fds : UsedOf (length p.privates) used
 
 -- what the FDs in use ask by their tables: ranks in the words, rows in order where that is said
-pub record LocalsIn (p : Program) (used ws table : List ℕ) (globals : Ranks) (rows : List Row) (rising : Bool) : Type 0 where
-  pub many : (f : ℕ) → f < 256 → in_use_lem used f ≡ true → get_or table (256 + f) 0 ≡ length (locals_of p f)
+pub record LocalsIn (p : Program) (used ws : List ℕ) (table : List Ranks) (globals : Ranks) (rows : List Row) (rising : Bool) : Type 0 where
+  pub many : (f : ℕ) → f < 256 → in_use_lem used f ≡ true → (ranks_in table f).count ≡ length (locals_of p f)
   pub ranks : (f : ℕ) → f < 256 → in_use_lem used f ≡ true → Ranked ws (ranks_in table f)
   pub global_ranks : Ranked ws globals
   pub order : rising ≡ true → rises rows ≡ true

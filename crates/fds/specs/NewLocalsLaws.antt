@@ -22,7 +22,7 @@ use Rattle.bodies.specs.Pruning.{all_hold}
 use Rattle.bodies.specs.Sizes.{Bounded}
 use Rattle.bodies.specs.SubrsLaws.{new-subrs_is}
 use Rattle.bodies.specs.WritingLaws.{measured_failed, measured-total}
-use Rattle.bodies.specs.declared.subrs.Subrs.TheVariants.{Local}
+use Rattle.reach.specs.declared.Subrs.TheVariants.{Local}
 use Rattle.fds.specs.Locals.{in_use_lem, used_below}
 use Rattle.fds.specs.UsedLaws.{used-next, unused_next, both-last, one_last, unused_apart}
 use Rattle.fds.specs.LocalsLaws.{locals-count}
@@ -96,7 +96,7 @@ module _ (way : Way) (b : List ℕ) (p : Program) (rows : List Row) (ws : List �
 
 -- ---- FD by FD
 
-module _ (b : List ℕ) (p : Program) (used ws table : List ℕ) (globals : Ranks) (rows : List Row) (rising : Bool)
+module _ (b : List ℕ) (p : Program) (used ws : List ℕ) (table : List Ranks) (globals : Ranks) (rows : List Row) (rising : Bool)
     (t : Tables b p used table) (w : LocalsIn p used ws table globals rows rising) where
   pub fd_in : (f : ℕ) → f < 256 → in_use_lem used f ≡ true → (own : Ranks) → own ≡ ranks_in table f → FdIn b p ws own globals rows rising f
   fd_in f h u own e =
@@ -110,7 +110,7 @@ module _ (b : List ℕ) (p : Program) (used ws table : List ℕ) (globals : Rank
         order = w.order;
       })
 
-module _ (way : Way) (p : Program) (rows : List Row) (ws table : List ℕ) (globals : Ranks) (used : List ℕ) where
+module _ (way : Way) (p : Program) (rows : List Row) (ws : List ℕ) (table : List Ranks) (globals : Ranks) (used : List ℕ) where
   -- the new local subroutines of the FDs in use below fd are measured, and none of these FDs fails
   pub record Summing (totals : List ℕ) (fd : ℕ) : Type 0 where
     pub hold : all_hold (locals_by way p rows ws table globals) (used_below used fd) ≡ true

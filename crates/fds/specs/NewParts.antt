@@ -32,7 +32,7 @@ module _ (way : Way) (p : Program) (rows : List Row) (ws : List ℕ) where
     pub few : at + length (part_with own globals f) ≤ 67108864
     pub fits : at + length (part_with own globals f) ≤ room
 
-  module _ (table : List ℕ) (globals : Ranks) where
+  module _ (table : List Ranks) (globals : Ranks) where
     -- the parts of some FDs
     abbrev pub parts_for : List ℕ → List ℕ
     parts_for fs = private_parts p fs (mapped (new_locals way p rows ws table globals) fs)

@@ -26,7 +26,7 @@ use Rattle.private_dicts.specs.PrivatesLaws.{private-dict_is}
 use Rattle.bodies.specs.Ways.{many_of, holds, new_subrs, subrs_by, reached_in, ranks_in, site_in, kept_count, Room}
 use Rattle.bodies.specs.Pruning.{all_hold}
 use Rattle.bodies.specs.SubrsLaws.{new-subrs_is, new-subrs_many}
-use Rattle.bodies.specs.declared.subrs.Subrs.TheVariants.{Local}
+use Rattle.reach.specs.declared.Subrs.TheVariants.{Local}
 use Rattle.fds.specs.Locals.{in_use_lem, used_below, fds_in}
 use Rattle.fds.specs.UsedLaws.{used-next, unused_next}
 use Rattle.fds.specs.NewLocals.{new_with, FdIn, locals_by, new_locals}
@@ -147,7 +147,7 @@ module _ (p : Program) (new : ℕ → List (List ℕ)) where
       ap (λ (l : List ℕ). private_part (private_of p x) (new x) ++ l) (parts_last fs f)
       ∙ sym (append_assoc (private_part (private_of p x) (new x)) (private_parts p fs (mapped new fs)) (private_part (private_of p f) (new f)))
 
-module _ (way : Way) (p : Program) (rows : List Row) (ws table : List ℕ) (globals : Ranks) (used : List ℕ) where
+module _ (way : Way) (p : Program) (rows : List Row) (ws : List ℕ) (table : List Ranks) (globals : Ranks) (used : List ℕ) where
   abbrev before : ℕ → List ℕ
   before n = parts_for way p rows ws table globals (used_below used n)
 

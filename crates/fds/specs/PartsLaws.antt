@@ -1,14 +1,12 @@
 -- Laws of the Private parts of the FDs in use: they are measured FD by FD, and the measures are those of the subset.
-use Rattle.std.specs.Prelude.{ℕ, zero, suc, ◌+◌, ◌*◌, ◌≤◌, ◌<◌, ◌≡◌, Bool, true, false, eqb, get_or, set}
+use Rattle.std.specs.Prelude.{ℕ, zero, suc, ◌+◌, ◌*◌, ◌≤◌, ◌<◌, ◌≡◌, Bool, true, false, eqb, drop, get_or, set}
 use Rattle.std.proofs.Math.Path.{refl, sym, ap}
 use Rattle.std.proofs.Common.{◌∙◌, subst, eq-eqb, ne_eqb}
-use mathlib.Core.List.{List, [], ◌∷◌, ◌++◌}
+use mathlib.Core.List.{List, [], ◌∷◌, ◌++◌, append_assoc}
 use native.Mathlib.Omega.{arith}
 use Rattle.std.proofs.Math.ListN.{length, length-append}
 use Rattle.octets.specs.Pick.{pick}
-use Rattle.octets.specs.Octets.{put}
-use Rattle.octets.specs.PutLaws.{put_nil, put_snoc}
-use Rattle.octets.specs.Lists.{sum_of}
+use Rattle.std.proofs.lemmas.List.{drop_more, length_push, set_at}
 use Rattle.index.specs.Write.{total, size_for, index_bytes, index_len_lem}
 use Rattle.index.specs.WriteLaws.{len_some, length-index, ends-small}
 use Rattle.cff.specs.Font.{Private, Program}
@@ -21,22 +19,24 @@ use Rattle.subset.specs.Subset.{private_dict, private_part, private_parts}
 use Rattle.subset.specs.EachLaws.{length-mapped}
 use Rattle.subset.specs.KeptListLaws.{those-count}
 use Rattle.reach.specs.Cases.{by_number}
-use Rattle.private_dicts.specs.Privates.{private_dict_by, sizes_of, lens_of}
+use Rattle.renumber.specs.declared.Ranks.{Ranks}
+use Rattle.bodies.specs.Ways.{ranks_in}
+use Rattle.private_dicts.specs.Privates.{private_dict_by, parts_len, part_for, parts_of}
 use Rattle.private_dicts.specs.PrivatesLaws.{private-dict_is}
 use Rattle.fds.specs.Locals.{in_use_lem, used_below, fds_in}
 use Rattle.fds.specs.UsedLaws.{used-next, unused_next}
 use Rattle.fds.specs.Parts.{left_in, subrs_len, dict_len, part_by, part_at, SizesParts}
-use Rattle.fds.specs.declared.parts.Part.{Part}
+use Rattle.private_dicts.specs.declared.part.Part.{Part}
 use Rattle.subset.specs.Way.{is_renumbered}
 use Rattle.subset.specs.declared.Way.{Way}
 
 -- ---- how many new local subroutines
 
-pub renumbered-left : (way : Way) (table : List ℕ) (f : ℕ) → is_renumbered way ≡ true → get_or table (512 + f) 0 ≡ left_in way table f
-renumbered-left way table f e = sym (ap (λ (t : Bool). pick t (get_or table (512 + f) 0) (get_or table (256 + f) 0)) e)
+pub renumbered-left : (way : Way) (table : List Ranks) (f : ℕ) → is_renumbered way ≡ true → (ranks_in table f).reached ≡ left_in way table f
+renumbered-left way table f e = sym (ap (λ (t : Bool). pick t (ranks_in table f).reached (ranks_in table f).count) e)
 
-pub all_left : (way : Way) (table : List ℕ) (f : ℕ) → is_renumbered way ≡ false → get_or table (256 + f) 0 ≡ left_in way table f
-all_left way table f h = sym (ap (λ (t : Bool). pick t (get_or table (512 + f) 0) (get_or table (256 + f) 0)) h)
+pub all_left : (way : Way) (table : List Ranks) (f : ℕ) → is_renumbered way ≡ false → (ranks_in table f).count ≡ left_in way table f
+all_left way table f h = sym (ap (λ (t : Bool). pick t (ranks_in table f).reached (ranks_in table f).count) h)
 
 -- ---- the INDEX of local subroutines
 
@@ -86,84 +86,84 @@ unfolding mapped
 mapped-last g [] f = refl
 mapped-last {A} g (x ∷ fs) f = ap (λ (l : List A). g x ∷ l) (mapped-last g fs f)
 
-sum-last : (l : List ℕ) (x : ℕ) → sum_of (l ++ (x ∷ [])) ≡ sum_of l + x
-unfolding sum_of
-sum-last [] x = omega arith
-sum-last (y ∷ l) x = omega (arith, sum-last l x)
+len-last : (qs : List Part) (q : Part) → parts_len (qs ++ (q ∷ [])) ≡ parts_len qs + q.len
+unfolding parts_len
+len-last [] q = omega arith
+len-last (x ∷ qs) q = omega (arith, len-last qs q)
+
+-- a list in front of what else a slice held, and one more stored behind it
+front-more : {A : Type 0} (xs old : List A) (x : A) (n : ℕ) → n ≡ length xs → n < length old
+    → set (xs ++ drop n old) n x ≡ (xs ++ (x ∷ [])) ++ drop (n + 1) old
+front-more {A} xs old x n e h =
+    ap (λ (l : List A). set (xs ++ l) n x) (drop_more old n x h)
+    ∙ set_at xs (get_or old n x) (drop (n + 1) old) x n (sym e)
+    ∙ sym (append_assoc xs (x ∷ []) (drop (n + 1) old))
 
 pub used-count : (used : List ℕ) (n : ℕ) → length (used_below used n) ≤ n
 used-count used n = those-count (in_use_lem used) n 0
 
-module _ (p : Program) (way : Way) (table totals used oldSizes oldLens : List ℕ) where
-  abbrev size_at : ℕ → ℕ
-  size_at f = (part_at p way table totals f).size
-
-  abbrev len_at : ℕ → ℕ
-  len_at f = (part_at p way table totals f).len
+module _ (p : Program) (way : Way) (table : List Ranks) (totals used : List ℕ) (old : List Part) where
+  abbrev at : ℕ → Part
+  at f = part_at p way table totals f
 
   -- the parts of the FDs in use below fd are measured
-  pub record Measuring (sizes lens : List ℕ) (all j fd : ℕ) : Type 0 where
-    pub dicts : sizes ≡ put oldSizes 0 (mapped size_at (used_below used fd))
-    pub parts : lens ≡ put oldLens 0 (mapped len_at (used_below used fd))
-    pub together : all ≡ sum_of (mapped len_at (used_below used fd))
+  pub record Measuring (new : List Part) (all j fd : ℕ) : Type 0 where
+    pub parts : new ≡ mapped at (used_below used fd) ++ drop (length (used_below used fd)) old
+    pub together : all ≡ parts_len (mapped at (used_below used fd))
     pub number : j ≡ length (used_below used fd)
     pub small : all ≤ fd * 281482000000000
 
-  pub measuring_start : Measuring oldSizes oldLens 0 0 0
-  unfolding those mapped sum_of
-  measuring_start =
-      record { dicts = sym (put_nil oldSizes 0); parts = sym (put_nil oldLens 0); together = refl; number = refl; small = omega arith }
+  pub measuring_start : Measuring old 0 0 0
+  unfolding those mapped parts_len
+  measuring_start = record { parts = refl; together = refl; number = refl; small = omega arith }
 
-  module _ (sizes lens : List ℕ) (all j fd : ℕ) (h : Measuring sizes lens all j fd) where
+  module _ (new : List Part) (all j fd : ℕ) (h : Measuring new all j fd) where
     pub measuring_number : j ≤ fd
     measuring_number = omega (arith, h.number, used-count used fd)
 
-    pub measuring_pass : in_use_lem used fd ≡ false → Measuring sizes lens all j (fd + 1)
+    pub measuring_pass : in_use_lem used fd ≡ false → Measuring new all j (fd + 1)
     measuring_pass e =
         let u = unused_next used fd e in
         record {
-          dicts = h.dicts ∙ ap (λ (l : List ℕ). put oldSizes 0 (mapped size_at l)) (sym u);
-          parts = h.parts ∙ ap (λ (l : List ℕ). put oldLens 0 (mapped len_at l)) (sym u);
-          together = h.together ∙ ap (λ (l : List ℕ). sum_of (mapped len_at l)) (sym u);
+          parts = h.parts ∙ ap (λ (l : List ℕ). mapped at l ++ drop (length l) old) (sym u);
+          together = h.together ∙ ap (λ (l : List ℕ). parts_len (mapped at l)) (sym u);
           number = h.number ∙ ap length (sym u);
           small = omega (arith, h.small);
         }
 
-    -- a number stored behind those of the FDs in use below fd
-    stored : (g : ℕ → ℕ) (old new : List ℕ) → new ≡ put old 0 (mapped g (used_below used fd)) → j < length old → in_use_lem used fd ≡ true
-        → set new j (g fd) ≡ put old 0 (mapped g (used_below used (fd + 1)))
-    stored g old new w r e =
-        let fs = used_below used fd in
-        let n : j ≡ 0 + length (mapped g fs) = omega (arith, h.number, length-mapped g fs) in
-        let k : 0 + length (mapped g fs) < length old = omega arith in
-        ap (λ (l : List ℕ). set l j (g fd)) w ∙ ap (λ (i : ℕ). set (put old 0 (mapped g fs)) i (g fd)) n
-        ∙ put_snoc old 0 (mapped g fs) (g fd) k
-        ∙ ap (put old 0) (sym (ap (mapped g) (used-next used fd e) ∙ mapped-last g fs fd))
-
-    module _ (e : in_use_lem used fd ≡ true) (r : Part) (is : r ≡ part_at p way table totals fd) where
+    module _ (e : in_use_lem used fd ≡ true) (r : Part) (is : r ≡ at fd) where
       -- it is no longer than numbers hold
       pub measuring_small : r.len ≤ 281482000000000 → all + r.len ≤ (fd + 1) * 281482000000000
       measuring_small l = omega (arith, h.small)
 
-      pub measuring_take : r.len ≤ 281482000000000 → j < length oldSizes → j < length oldLens
-          → Measuring (set sizes j r.size) (set lens j r.len) (all + r.len) (j + 1) (fd + 1)
-      measuring_take l s t =
+      -- a part stored behind those of the FDs in use below fd
+      stored : j < length old → set new j r ≡ mapped at (used_below used (fd + 1)) ++ drop (length (used_below used (fd + 1))) old
+      stored l =
           let fs = used_below used fd in
           let u = used-next used fd e in
-          let a : r.size ≡ size_at fd = ap (λ (x : Part). x.size) is in
-          let b : r.len ≡ len_at fd = ap (λ (x : Part). x.len) is in
+          let n : j ≡ length (mapped at fs) = h.number ∙ sym (length-mapped at fs) in
+          ap (λ (xs : List Part). set xs j r) (h.parts ∙ ap (λ (i : ℕ). mapped at fs ++ drop i old) (sym h.number))
+          ∙ front-more (mapped at fs) old r j n l
+          ∙ ap (λ (q : Part). (mapped at fs ++ (q ∷ [])) ++ drop (j + 1) old) is
+          ∙ ap (λ (xs : List Part). xs ++ drop (j + 1) old) (sym (ap (mapped at) u ∙ mapped-last at fs fd))
+          ∙ ap (λ (i : ℕ). mapped at (used_below used (fd + 1)) ++ drop i old)
+          (ap (λ (i : ℕ). i + 1) h.number ∙ sym (ap length u ∙ length_push fs fd))
+
+      pub measuring_take : r.len ≤ 281482000000000 → j < length old → Measuring (set new j r) (all + r.len) (j + 1) (fd + 1)
+      measuring_take l s =
+          let fs = used_below used fd in
+          let u = used-next used fd e in
           record {
-            dicts = ap (set sizes j) a ∙ stored size_at oldSizes sizes h.dicts s e;
-            parts = ap (set lens j) b ∙ stored len_at oldLens lens h.parts t e;
-            together = omega (arith, h.together, b, ap (λ (l : List ℕ). sum_of (mapped len_at l)) u, ap sum_of (mapped-last len_at fs fd), sum-last (mapped len_at fs) (len_at fd));
-            number = omega (arith, h.number, ap length u, length-append fs (fd ∷ []));
+            parts = stored s;
+            together = omega (arith, h.together, ap (λ (q : Part). q.len) is, ap (λ (l : List ℕ). parts_len (mapped at l)) u, ap parts_len (mapped-last at fs fd), len-last (mapped at fs) (at fd));
+            number = omega (arith, h.number, ap length u, length_push fs fd);
             small = measuring_small l;
           }
 
-    pub measuring_done : fd ≡ 256 → SizesParts p way table totals used oldSizes oldLens sizes lens all
+    pub measuring_done : fd ≡ 256 → SizesParts p way table totals used old new all
     measuring_done e =
-        let g = subst (Measuring sizes lens all j) e h in
-        record { dicts = g.dicts; parts = g.parts; together = g.together; small = g.small }
+        let g = subst (Measuring new all j) e h in
+        record { parts = g.parts; together = g.together; small = g.small }
 
 -- ---- the measures of the subset
 
@@ -187,41 +187,33 @@ mapped-used {A} g h used (suc n) same =
     go false u i = ap (mapped g) (unused_next used n u) ∙ i ∙ sym (ap (mapped h) (unused_next used n u))
 
 module _ (p : Program) (new : ℕ → List (List ℕ)) where
-  sizes_mapped : (fs : List ℕ) → sizes_of p fs (mapped new fs) ≡ mapped (λ f. length (private_dict (private_of p f) (new f))) fs
-  unfolding sizes_of mapped
-  sizes_mapped [] = refl
-  sizes_mapped (f ∷ fs) = ap (λ (l : List ℕ). length (private_dict (private_of p f) (new f)) ∷ l) (sizes_mapped fs)
-
-  lens_mapped : (fs : List ℕ) → lens_of p fs (mapped new fs) ≡ mapped (λ f. length (private_part (private_of p f) (new f))) fs
-  unfolding lens_of mapped
-  lens_mapped [] = refl
-  lens_mapped (f ∷ fs) = ap (λ (l : List ℕ). length (private_part (private_of p f) (new f)) ∷ l) (lens_mapped fs)
+  parts_mapped : (fs : List ℕ) → parts_of p fs (mapped new fs) ≡ mapped (λ f. part_for (private_of p f) (new f)) fs
+  unfolding parts_of mapped
+  parts_mapped [] = refl
+  parts_mapped (f ∷ fs) = ap (λ (qs : List Part). part_for (private_of p f) (new f) ∷ qs) (parts_mapped fs)
 
   -- the parts together
-  pub parts_together : (fs : List ℕ) → length (private_parts p fs (mapped new fs)) ≡ sum_of (lens_of p fs (mapped new fs))
-  unfolding private_parts lens_of mapped sum_of
+  pub parts_together : (fs : List ℕ) → length (private_parts p fs (mapped new fs)) ≡ parts_len (parts_of p fs (mapped new fs))
+  unfolding private_parts parts_of mapped parts_len
   parts_together [] = refl
   parts_together (f ∷ fs) =
       length-append (private_part (private_of p f) (new f)) (private_parts p fs (mapped new fs))
       ∙ ap (λ (n : ℕ). length (private_part (private_of p f) (new f)) + n) (parts_together fs)
 
   -- where the tables tell how many new local subroutines an FD has, and how many bytes
-  module _ (way : Way) (table totals used : List ℕ)
+  module _ (way : Way) (table : List Ranks) (totals used : List ℕ)
       (many : (f : ℕ) → f < 256 → in_use_lem used f ≡ true → left_in way table f ≡ length (new f))
       (bytes : (f : ℕ) → f < 256 → in_use_lem used f ≡ true → get_or totals f 0 ≡ total (new f)) where
-    pub sizes_are : mapped (λ f. (part_at p way table totals f).size) (fds_in used) ≡ sizes_of p (fds_in used) (mapped new (fds_in used))
-    sizes_are =
-        mapped-used _ (λ f. length (private_dict (private_of p f) (new f))) used 256
-        (λ f h u. ap (λ (n : ℕ). length (private_dict_by (private_of p f).entries n)) (many f h u) ∙ ap length (sym (private-dict_is (private_of p f) (new f))))
-        ∙ sym (sizes_mapped (fds_in used))
+    part_same : (f : ℕ) → f < 256 → in_use_lem used f ≡ true → part_at p way table totals f ≡ part_for (private_of p f) (new f)
+    part_same f h u =
+        let q = private_of p f in
+        ap (λ (n : ℕ). part_by p n (get_or totals f 0) f) (many f h u) ∙ ap (λ (t : ℕ). part_by p (length (new f)) t f) (bytes f h u)
+        ∙ ap (λ (n : ℕ). measured n (n + subrs_len (length (new f)) (total (new f)))) (ap length (sym (private-dict_is q (new f))))
+        ∙ ap (measured (length (private_dict q (new f))))
+        (ap (λ (n : ℕ). n + subrs_len (length (new f)) (total (new f))) (ap length (private-dict_is q (new f))) ∙ sym (part_length q (new f)))
 
-    pub lens_are : mapped (λ f. (part_at p way table totals f).len) (fds_in used) ≡ lens_of p (fds_in used) (mapped new (fds_in used))
-    lens_are =
-        mapped-used _ (λ f. length (private_part (private_of p f) (new f))) used 256
-        (λ f h u. ap (λ (n : ℕ). length (private_dict_by (private_of p f).entries n) + subrs_len n (get_or totals f 0)) (many f h u)
-        ∙ ap (λ (t : ℕ). length (private_dict_by (private_of p f).entries (length (new f))) + subrs_len (length (new f)) t) (bytes f h u)
-        ∙ sym (part_length (private_of p f) (new f)))
-        ∙ sym (lens_mapped (fds_in used))
+    pub measures_are : mapped (part_at p way table totals) (fds_in used) ≡ parts_of p (fds_in used) (mapped new (fds_in used))
+    measures_are = mapped-used _ (λ f. part_for (private_of p f) (new f)) used 256 part_same ∙ sym (parts_mapped (fds_in used))
 
-    pub parts_are : sum_of (mapped (λ f. (part_at p way table totals f).len) (fds_in used)) ≡ length (private_parts p (fds_in used) (mapped new (fds_in used)))
-    parts_are = ap sum_of lens_are ∙ sym (parts_together (fds_in used))
+    pub parts_are : parts_len (mapped (part_at p way table totals) (fds_in used)) ≡ length (private_parts p (fds_in used) (mapped new (fds_in used)))
+    parts_are = ap parts_len measures_are ∙ sym (parts_together (fds_in used))

@@ -8,18 +8,18 @@ pub mod privates;
 pub mod table;
 pub mod totals;
 
-ghost use Rattle.std.specs.Prelude.{◌≡◌, false, ◌+◌, ◌≤◌, ◌<◌, length};
+ghost use Rattle.std.specs.Prelude.{◌≡◌, ◌+◌, ◌≤◌, ◌<◌, length};
 ghost use Rattle.octets.specs.Octets.{put};
-ghost use Rattle.octets.specs.Pick.{pick};
 ghost use Rattle.record.specs.Record.{rows_of};
 ghost use Rattle.bits.specs.Bits.{words_for};
 ghost use Rattle.cff.specs.Find.{locals_words};
 ghost use Rattle.cff.specs.Loaded.{program};
 ghost use Rattle.subset.specs.Kept.{locals_of};
-ghost use Rattle.fds.specs.Locals.{fd_bits, ranked_locals, with_ranks, RanksLocals};
+ghost use Rattle.fds.specs.Locals.{fd_bits, ranked_locals, RanksLocals};
 
 use crate::in_use::InUse;
 use private_dicts::fd::Fd;
+use reach::Subrs;
 use renumber::Ranks;
 
 // The bits of the local subroutines of an FD, and whether the record has no other number.
@@ -37,7 +37,7 @@ fn rank_fd(of: &Fd<'_>, rows: &[u8], words: &mut [u32], at: usize) -> RankedLoca
 {
     let q = private_dicts::fd_private(of);
     let count = q.locals.count;
-    let r = reach::ranks::rank_reached(rows, false, of.fd, words, at, count);
+    let r = reach::ranks::rank_reached(rows, Subrs::Local(of.fd), words, at, count);
     let own = Ranks {
         at,
         count,
@@ -48,34 +48,15 @@ fn rank_fd(of: &Fd<'_>, rows: &[u8], words: &mut [u32], at: usize) -> RankedLoca
     RankedLocals { own, all: r.all }
 }
 
-// Tells by the table where the bits of the locals of an FD stand.
-fn put_ranks(table: &mut [usize], fd: usize, q: Ranks)
-    requires { (fd < 256) × (1280 ≤ length table.old) }
-    ensures { table.new ≡ with_ranks table.old fd q }
-{
-    table[fd] = q.at;
-    table[256 + fd] = q.count;
-    table[512 + fd] = q.reached;
-    table[768 + fd] = q.low;
-    table[1024 + fd] = q.high;
-}
-
-// Whether both hold.
-pub fn both(a: bool, b: bool) -> bool
-    ensures { result ≡ pick a b false }
-{
-    a && b
-}
-
 // Sets the bits of the locals of each FD in use, one FD behind the other from `at` on; whether no number is without a subroutine.
 pub fn rank_locals(
     fds: &InUse<'_, '_>,
     rows: &[u8],
     words: &mut [u32],
     at: usize,
-    table: &mut [usize],
+    table: &mut [Ranks],
 ) -> bool
-    requires { (at < 4294967296) × (at + locals_words (program fds.now.font).privates ≤ length words.old) × (1280 ≤ length table.old) }
+    requires { (at < 4294967296) × (at + locals_words (program fds.now.font).privates ≤ length words.old) × (256 ≤ length table.old) }
     ensures { RanksLocals (program fds.now.font) (rows_of rows.now) fds.now.used.now at words.old words.new table.new result }
 {
     let font = fds.font;
@@ -86,8 +67,8 @@ pub fn rank_locals(
         if used[fd] != 0 {
             let of = Fd { font, fd };
             let r = rank_fd(&of, rows, &mut *words, place);
-            put_ranks(&mut *table, fd, r.own);
-            all = both(all, r.all);
+            table[fd] = r.own;
+            all = all && r.all;
             place += bits::words_for(r.own.count);
         }
     }

@@ -9,14 +9,8 @@ use crate::table::FdTable;
 use bodies::subrs::kept_count;
 use private_dicts::fd::Fd;
 use private_dicts::held::PrivateDict;
+use private_dicts::part::Part;
 use subset::Way;
-
-// The size of a Private DICT, and the length of the part that it and its local subroutines make.
-#[derive(Clone, Copy)]
-pub struct Part {
-    pub size: usize,
-    pub len: usize,
-}
 
 // The FDs in use, rising, from the front of fds on; how many they are.
 pub fn list_used(used: &[u32], fds: &mut [usize]) -> usize
@@ -58,17 +52,11 @@ fn part_of(at: &Fd<'_>, left: usize, total: usize) -> Part
     Part { size, len }
 }
 
-// The sizes of the Private DICTs and the lengths of their parts, by new number; all parts together.
-pub fn part_sizes(
-    way: Way,
-    fds: &FdTable<'_>,
-    totals: &[usize],
-    sizes: &mut [usize],
-    lens: &mut [usize],
-) -> usize
+// The parts of the FDs in use by new number, from the front of parts on; how long they are together.
+pub fn part_sizes(way: Way, fds: &FdTable<'_, '_>, totals: &[usize], parts: &mut [Part]) -> usize
     requires { (256 ≤ length totals.now) × (PartsFit (program fds.now.font) way fds.now.table.now totals.now fds.now.used.now)
-        × (256 ≤ length sizes.old) × (256 ≤ length lens.old) }
-    ensures { SizesParts (program fds.now.font) way fds.now.table.now totals.now fds.now.used.now sizes.old lens.old sizes.new lens.new result }
+        × (256 ≤ length parts.old) }
+    ensures { SizesParts (program fds.now.font) way fds.now.table.now totals.now fds.now.used.now parts.old parts.new result }
 {
     let font = fds.font;
     let used = fds.used;
@@ -76,12 +64,11 @@ pub fn part_sizes(
     let mut j: usize = 0;
     for fd in 0..256 {
         if used[fd] != 0 {
-            let own = fds.ranks(fd);
+            let own = fds.table[fd];
             let left = kept_count(way, own.reached, own.count);
             let at = Fd { font, fd };
             let part = part_of(&at, left, totals[fd]);
-            sizes[j] = part.size;
-            lens[j] = part.len;
+            parts[j] = part;
             all += part.len;
             j += 1;
         }

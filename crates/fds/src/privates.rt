@@ -11,10 +11,11 @@ use crate::table::FdTable;
 use bodies::Manner;
 use bodies::measured::Measured;
 use bodies::subroutines::Subroutines;
-use bodies::subrs::{Source, Subrs};
+use bodies::subrs::Source;
 use octets::out::Out;
 use private_dicts::fd::Fd;
 use private_dicts::held::PrivateDict;
+use reach::Subrs;
 use renumber::Ranks;
 
 // The Private part of an FD.
@@ -61,7 +62,7 @@ fn put_part(
 // The Private parts of the FDs in use.
 pub fn put_privates(
     how: Manner,
-    fds: &FdTable<'_>,
+    fds: &FdTable<'_, '_>,
     words: &[u32],
     totals: &[usize],
     rows: &[u8],
@@ -76,7 +77,7 @@ pub fn put_privates(
     let used = fds.used;
     for fd in 0..256 {
         if used[fd] != 0 {
-            let own = fds.ranks(fd);
+            let own = fds.table[fd];
             let of = Fd { font, fd };
             put_part(how, &of, words, own, rows, totals[fd], &mut *out);
         }

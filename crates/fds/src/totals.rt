@@ -9,8 +9,9 @@ ghost use Rattle.fds.specs.NewLocals.{locals_with, FdIn, MeasuresLocals, LocalsI
 use crate::table::FdTable;
 use bodies::Manner;
 use bodies::subroutines::Subroutines;
-use bodies::subrs::{Source, Subrs};
+use bodies::subrs::Source;
 use private_dicts::fd::Fd;
+use reach::Subrs;
 use renumber::Ranks;
 
 // The bytes of the new local subroutines of an FD, by the way; or that their renumbering fails.
@@ -41,7 +42,7 @@ fn locals_total(how: Manner, at: &Fd<'_>, words: &[u32], own: Ranks, rows: &[u8]
 // The bytes of the new local subroutines of each FD in use, by the way; false where their renumbering fails.
 pub fn measure_locals(
     how: Manner,
-    fds: &FdTable<'_>,
+    fds: &FdTable<'_, '_>,
     words: &[u32],
     rows: &[u8],
     totals: &mut [usize],
@@ -54,7 +55,7 @@ pub fn measure_locals(
     let used = fds.used;
     for fd in 0..256 {
         if used[fd] != 0 {
-            let own = fds.ranks(fd);
+            let own = fds.table[fd];
             let at = Fd { font, fd };
             match locals_total(how, &at, words, own, rows) {
                 Some(t) => totals[fd] = t,

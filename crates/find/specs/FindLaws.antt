@@ -1,12 +1,14 @@
 -- Laws of finding: one glyph more, and a name against a string id.
-use Rattle.std.specs.Prelude.{ℕ, ◌+◌, ◌-◌, ◌≤◌, ◌<◌, ◌≡◌, refl, Bool, true, false, List, [], ◌∷◌, eqb, length, drop, get_or, None, Option, Some}
+use Rattle.std.specs.Prelude.{ℕ, ◌+◌, ◌-◌, ◌≤◌, ◌<◌, ◌≡◌, refl, Bool, true, false, List, [], ◌∷◌, eqb, length, drop, get_or, cond, None, Option, Some}
+use Rattle.std.specs.List.{position_from}
 use Rattle.std.proofs.Common.{sym, ◌∙◌, subst, add-one, arith, drop_of_length-le, drop-cons, eq-eqb, ne_eqb, eqb-true}
 use Rattle.std.proofs.Math.Path.{ap}
 use Rattle.std.proofs.lemmas.Bool.{eqb-false}
+use Rattle.octets.specs.Pick.{pick}
 use Rattle.strings.specs.Text.{same_text_lem}
 use Rattle.strings.specs.TextLaws.{same_refl, same_not}
 use Rattle.strings.specs.Strings.{standard_string, string_text, sid_of}
-use Rattle.strings.proofs.StringsLaws.{string_standard, string_own, string_none, sid_text, sid_is, sid_other}
+use Rattle.strings.proofs.StringsLaws.{string_standard, sid_text, sid_is, sid_other}
 use Rattle.charset.specs.Listed.{numbers_of}
 use Rattle.charset.specs.Charset.{ids_from}
 use Rattle.charset.specs.CharsetPlaces.{ids_of, GoodCharset, charset_start, next_id, StandsId, ReadyId}
@@ -30,23 +32,26 @@ module _ (ids : List ℕ) (g : ℕ) (h : g < length ids) where
   unfolding glyph_with_id
   id_later id e = ap (glyph_with_id id g) split ∙ rw (ne_eqb (get_or ids g 0) id e)
 
-  pub text-here : (strings : List (List ℕ)) (name : List ℕ) → same_text_lem (string_text strings (get_or ids g 0)) name ≡ true
-      → glyph_with_text strings name g (drop g ids) ≡ Some g
-  unfolding glyph_with_text
-  text-here strings name e = ap (glyph_with_text strings name g) split ∙ rw e
-
-  pub text-later : (strings : List (List ℕ)) (name : List ℕ) → same_text_lem (string_text strings (get_or ids g 0)) name ≡ false
-      → glyph_with_text strings name g (drop g ids) ≡ glyph_with_text strings name (g + 1) (drop (g + 1) ids)
-  unfolding glyph_with_text
-  text-later strings name e = ap (glyph_with_text strings name g) split ∙ rw e
-
 pub id_nowhere : (id g : ℕ) (ids : List ℕ) → length ids ≤ g → glyph_with_id id g (drop g ids) ≡ None
 unfolding glyph_with_id
 id_nowhere id g ids h = ap (glyph_with_id id g) (drop_of_length-le ids h)
 
-pub text_nowhere : (strings : List (List ℕ)) (name : List ℕ) (g : ℕ) (ids : List ℕ) → length ids ≤ g → glyph_with_text strings name g (drop g ids) ≡ None
+-- ---- the first place that passes
+
+chosen : (t : Bool) (a b c : Option ℕ) → b ≡ c → pick t a b ≡ cond t a c
+chosen true a b c e = refl
+chosen false a b c e = e
+
+pub id_place : (id g : ℕ) (ids : List ℕ) → glyph_with_id id g ids ≡ position_from (λ x. eqb x id) g ids
+unfolding glyph_with_id
+id_place id g [] = refl
+id_place id g (x ∷ ids) = chosen (eqb x id) (Some g) _ _ (id_place id (g + 1) ids)
+
+pub text_place : (strings : List (List ℕ)) (name : List ℕ) (g : ℕ) (ids : List ℕ)
+    → glyph_with_text strings name g ids ≡ position_from (λ x. same_text_lem (string_text strings x) name) g ids
 unfolding glyph_with_text
-text_nowhere strings name g ids h = ap (glyph_with_text strings name g) (drop_of_length-le ids h)
+text_place strings name g [] = refl
+text_place strings name g (x ∷ ids) = chosen (same_text_lem (string_text strings x) name) (Some g) _ _ (text_place strings name (g + 1) ids)
 
 -- ---- a name against a string id
 
@@ -65,18 +70,6 @@ has-id id name None h s = sym (same_not (standard_string id) name (sid_other nam
 pub named-standard : (strings : List (List ℕ)) (id : ℕ) (name : List ℕ) (sid : Option ℕ) → id < 391 → sid ≡ sid_of name → (r : Bool) → r ≡ has_id id sid
     → r ≡ same_text_lem (string_text strings id) name
 named-standard strings id name sid h s r e = e ∙ has-id id name sid h s ∙ ap (λ (x : List ℕ). same_text_lem x name) (sym (string_standard strings id h))
-
-pub named-own : (strings : List (List ℕ)) (id : ℕ) (name item : List ℕ) (r : Bool) → 391 ≤ id → item ≡ get_or strings (id - 391) [] → r ≡ same_text_lem item name
-    → r ≡ same_text_lem (string_text strings id) name
-named-own strings id name item r h e f = f ∙ ap (λ (x : List ℕ). same_text_lem x name) (e ∙ sym (string_own strings id h))
-
-empty_name : (name : List ℕ) → eqb (length name) 0 ≡ same_text_lem [] name
-unfolding same_text_lem
-empty_name [] = refl
-empty_name (x ∷ name) = ne_eqb (length (x ∷ name)) 0 (λ e. omega arith)
-
-pub named_none : (strings : List (List ℕ)) (id : ℕ) (name : List ℕ) → 391 + length strings ≤ id → eqb (length name) 0 ≡ same_text_lem (string_text strings id) name
-named_none strings id name h = empty_name name ∙ ap (λ (x : List ℕ). same_text_lem x name) (sym (string_none strings id h))
 
 -- ---- a pass over the glyphs
 

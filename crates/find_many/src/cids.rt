@@ -12,6 +12,7 @@ use charset::ids::Ids;
 use refusal::Refusal;
 
 // Puts the first of the glyphs with each id into the slot of the id.
+// (With `glyphs.iter().enumerate()`, proved too, `find_cids` over 65,535 glyphs took 6 to 9 % longer: clang then writes each slot again.)
 fn fill(glyphs: &Ids<'_>, slots: &mut [u32])
     requires { Slots none slots.old }
     ensures { Slots (λ id. number_for (glyph_with_id id 0 (ids glyphs.now))) slots.new }

@@ -12,6 +12,10 @@ leading strings lead [] leads = leads
 leading strings lead (x ∷ xs) leads =
     pick (same_text_lem (string_text strings lead) (string_text strings x)) (leading strings lead xs (set leads x lead)) (leading strings x xs (set leads x x))
 
+-- what a closure may give of an id is the key of that id
+abbrev pub Gives : (ℕ → ℕ → Type 0) → (ℕ → ℕ) → Type 0
+Gives may key_of = (id k : ℕ) → id < 65536 → may id k → k ≡ key_of id
+
 -- the leads of the ids of all glyphs
 abbrev pub lead_ids : List ℕ → List ℕ → List ℕ
 lead_ids leads ids = mapped (λ id. get_or leads id 0) ids

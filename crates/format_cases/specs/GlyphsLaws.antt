@@ -14,6 +14,15 @@ use Rattle.refusal.specs.declared.Refusal.{Refusal}
 use Rattle.refusal.specs.Refusal.{number_of}
 
 module _ (w : ℕ) where
+  -- the numbers that are left
+  pub numbers-more : (l : List ℕ) (x : ℕ) (t : List ℕ) → l ≡ x ∷ t → table_bytes w l ≡ bytes_of w x ++ table_bytes w t
+  unfolding table_bytes
+  numbers-more l x t e = ap (table_bytes w) e
+
+  pub numbers_end : (l : List ℕ) → l ≡ [] → table_bytes w l ≡ []
+  unfolding table_bytes
+  numbers_end l e = ap (table_bytes w) e
+
   -- the numbers from the k-th on
   pub numbers-next : (l : List ℕ) (k x : ℕ) → k < length l → x ≡ get_or l k 0 → table_bytes w (drop k l) ≡ bytes_of w x ++ table_bytes w (drop (k + 1) l)
   unfolding table_bytes

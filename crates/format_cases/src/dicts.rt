@@ -19,8 +19,8 @@ fn put_decimal(d: Decimal, to: &mut Answer)
     to.num(d.down, 1);
 }
 
-// The operands that stand from a position on, as dict_write `put_operands` writes them in their shortest form. A trait for how a number is written, with its
-// law, would be longer than this.
+// The operands that stand from a position on, as dict_write writes them in their shortest form. Its walk is private and
+// its sinks take DICT bytes, where an answer here takes sign, digits and powers: to share the walk, its trait would have to be a public promise.
 fn put_operands(d: &[u8], start: usize, count: usize, to: &mut Answer)
     requires { length to.old + 11 * count ≤ 4096 }
     ensures { to.new ≡ to.old ++ operands_bytes (operands_at count d.now start) }

@@ -16,11 +16,8 @@ fn put_ids(glyphs: &Ids<'_>, to: &mut Answer)
     requires { length to.old + 2 * glyphs.now.n ≤ 4096 }
     ensures { to.new ≡ to.old ++ table_bytes 2 (ids glyphs.now) }
 {
-    let mut u = charset::charset_start(glyphs.charset);
-    for _ in 0..glyphs.n {
-        let step = charset::next_id(glyphs.bytes, u);
-        to.num(step.id, 2);
-        u = step.next;
+    for id in glyphs.iter() {
+        to.num(id, 2);
     }
 }
 

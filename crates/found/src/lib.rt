@@ -11,7 +11,7 @@ ghost use Rattle.index.specs.Items.{items};
 ghost use Rattle.charset.specs.Ids.{ids};
 ghost use Rattle.cff.specs.Loaded.{program};
 ghost use Rattle.subset.specs.Kept.{kept_of};
-ghost use Rattle.subset.specs.Cut.{all_found_lem, is_glyph};
+ghost use Rattle.subset.specs.Cut.{all_found_lem};
 ghost use Rattle.kept.specs.Packed.{all_of, text_found, name_found};
 ghost use Rattle.first_glyphs.specs.Bits.{Unseen};
 ghost use Rattle.first_glyphs.specs.Flagged.{flagged_of};
@@ -35,20 +35,12 @@ pub enum Told {
     Open,
 }
 
-// Whether finding gave glyph g.
-fn is_glyph(found: Option<usize>, g: usize) -> bool
-    ensures { result ≡ is_glyph g found }
-{
-    found == Some(g)
-}
-
 // Whether finding a name gives glyph g.
 fn text_found(glyphs: &Ids<'_>, strings: &Items<'_>, name: &[u8], g: usize) -> bool
     ensures { result ≡ text_found (items strings.now) (ids glyphs.now) name.now g }
 {
     let sid = strings::sid_of(name);
-    let found = find::find_text(glyphs, strings, name, sid);
-    is_glyph(found, g)
+    find::find_text(glyphs, strings, name, sid) == Some(g)
 }
 
 // Whether finding the name of glyph g gives that glyph.
@@ -132,12 +124,8 @@ fn names_met(
 {
     let glyphs = &flagged.glyphs;
     let end = flags_end(flagged);
-    let mut u = charset::charset_start(glyphs.charset);
     let mut looks = LOOKS;
-    for g in 0..end {
-        let s = charset::next_id(glyphs.bytes, u);
-        let sid = s.id;
-        u = s.next;
+    for (g, sid) in glyphs.first(end).iter().enumerate() {
         let flag = bits::has_bit(flagged.flags, 0, g);
         if first_glyphs::see(&mut *seen, sid) {
             if flag {

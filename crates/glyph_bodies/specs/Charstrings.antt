@@ -14,7 +14,7 @@ use Rattle.bodies.specs.declared.Manner.{Manner}
 use Rattle.subset.specs.declared.Way.{Way}
 
 -- a glyph's charstring by the way, or that its renumbering fails; fds has the FD of each glyph
-module _ (way : Way) (rows : List Row) (fds ws table : List ℕ) (globals : Ranks) (items : List (List ℕ)) where
+module _ (way : Way) (rows : List Row) (fds ws : List ℕ) (table : List Ranks) (globals : Ranks) (items : List (List ℕ)) where
   abbrev pub charstring_of : ℕ → Option (List ℕ)
   charstring_of g = body_by way rows (calls_by ws (ranks_in table (get_or fds g 0)) globals) (glyph g) (get_or items g [])
 
@@ -23,15 +23,15 @@ module _ (way : Way) (rows : List Row) (fds ws table : List ℕ) (globals : Rank
   charstrings_of order = each charstring_of order
 
 -- what the charstrings ask of the font, the words and the tables
-pub record CharstringsIn (b ws table : List ℕ) (o : Order) (how : Manner) (rows : List Row) : Type 0 where
+pub record CharstringsIn (b ws : List ℕ) (table : List Ranks) (o : Order) (how : Manner) (rows : List Row) : Type 0 where
   pub size : length b ≤ 67108864
-  pub table_long : 1280 ≤ length table
+  pub table_long : 256 ≤ length table
   pub fds : (i : ℕ) → i < o.count → get_or (program_of b o.f).fds (get_or (glyphs_of b o.f ws) i 0) 0 < 256
   pub local_ranks : (i : ℕ) → i < o.count → Ranked ws (ranks_in table (get_or (program_of b o.f).fds (get_or (glyphs_of b o.f ws) i 0) 0))
   pub global_ranks : Ranked ws how.globals
   pub order : how.rising ≡ true → rises rows ≡ true
 
 -- the charstrings of the kept glyphs by the way, or that their renumbering fails
-abbrev pub charstrings_from : Manner → Order → List Row → List ℕ → List ℕ → List ℕ → Option (List (List ℕ))
+abbrev pub charstrings_from : Manner → Order → List Row → List ℕ → List Ranks → List ℕ → Option (List (List ℕ))
 charstrings_from how o rows ws table b =
     charstrings_of how.way rows (program_of b o.f).fds ws table how.globals (items_of b o.f.charstrings) (glyphs_of b o.f ws)

@@ -7,6 +7,7 @@ use Rattle.charset.specs.declared.fd_select.FdSelect.{FdSelect}
 use Rattle.unfold.specs.Unfold.{Row, glyph}
 use Rattle.reach.specs.Reach.{rises}
 use Rattle.renumber.specs.Ranks.{calls_by, Ranked}
+use Rattle.renumber.specs.declared.Ranks.{Ranks}
 use Rattle.bodies.specs.Ways.{body_by, ranks_in}
 use Rattle.glyph_bodies.specs.declared.glyphs.Glyph.{Glyph}
 use Rattle.glyph_bodies.specs.declared.glyphs.Source.{Source}
@@ -16,18 +17,18 @@ abbrev pub glyph_of : List ℕ → FdSelect → ℕ → Glyph
 glyph_of b select g = record { number = g; fd = fd_of b select g }
 
 -- its charstring by the way, or that its renumbering fails
-abbrev pub charstring_for : Source → Glyph → List Row → List ℕ → List ℕ → List ℕ → Option (List ℕ)
+abbrev pub charstring_for : Source → Glyph → List Row → List ℕ → List Ranks → List ℕ → Option (List ℕ)
 charstring_for from g rows ws table b =
     body_by from.how.way rows (calls_by ws (ranks_in table g.fd) from.how.globals) (glyph g.number) (get_or (items_of b from.ix) g.number [])
 
 -- what it asks of the font, the words and the tables
-pub record GlyphIn (b ws table : List ℕ) (from : Source) (g : Glyph) (rows : List Row) : Type 0 where
+pub record GlyphIn (b ws : List ℕ) (table : List Ranks) (from : Source) (g : Glyph) (rows : List Row) : Type 0 where
   pub good : Good b from.ix
   pub few : from.ix.count < 65536
   pub inside : g.number < from.ix.count
   pub size : length b ≤ 67108864
   pub fd_inside : g.fd < 256
-  pub table_long : 1280 ≤ length table
+  pub table_long : 256 ≤ length table
   pub local_ranks : Ranked ws (ranks_in table g.fd)
   pub global_ranks : Ranked ws from.how.globals
   pub order : from.how.rising ≡ true → rises rows ≡ true

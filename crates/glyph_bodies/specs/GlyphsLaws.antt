@@ -9,8 +9,8 @@ use Rattle.index.specs.IndexLaws.{item-short}
 use Rattle.charset.specs.FdPlaces.{fd_of}
 use Rattle.record.specs.Record.{rows_of}
 use Rattle.unfold.specs.Unfold.{Row}
-use Rattle.reach.specs.Reach.{site_of}
-use Rattle.reach.specs.declared.Site.TheVariants.{Glyph as GlyphSite}
+use Rattle.unfold.specs.Sites.{site_of}
+use Rattle.unfold.specs.declared.Site.TheVariants.{Glyph as GlyphSite}
 use Rattle.order_window.specs.Stays.{order_of, Stays, stays-refl, stays-of, stays-glyph}
 use Rattle.order_window.specs.declared.window.Kept.{Kept}
 use Rattle.renumber.specs.Ranks.{Ranked}
@@ -38,9 +38,9 @@ glyph_read old new s i h w fd e f =
     ap (λ (x : ℕ). record { number = w % 65536; fd = x }) (f ∙ stays-of (λ b g ws. fd_of b g.select (w % 65536)) old new s)
     ∙ ap (glyph_of old.font.now old.o.f.select) (stays-glyph old old (stays-refl old) i h w e)
 
-module _ {b ws table : List ℕ} {from : Source} {g : Glyph} {rows : List Row} (w : GlyphIn b ws table from g rows) where
-  -- the FD is in the tables
-  pub fd-inside : 1024 + g.fd < length table
+module _ {b ws : List ℕ} {table : List Ranks} {from : Source} {g : Glyph} {rows : List Row} (w : GlyphIn b ws table from g rows) where
+  -- the FD is in the table
+  pub fd-inside : g.fd < length table
   fd-inside = omega (arith, w.fd_inside, w.table_long)
 
   module _ (locals : Ranks) (el : locals ≡ ranks_in table g.fd) (s : List ℕ) (es : s ≡ get_or (items_of b from.ix) g.number []) where

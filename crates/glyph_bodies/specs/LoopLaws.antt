@@ -12,6 +12,7 @@ use Rattle.cff.specs.Reads.{program_of}
 use Rattle.cff.specs.declared.font.Font.{Font}
 use Rattle.subset.specs.Pruned.{each}
 use Rattle.renumber.specs.Turn.{sized_of, body_of_lem}
+use Rattle.renumber.specs.declared.Ranks.{Ranks}
 use Rattle.order_window.specs.Window.{glyphs_of}
 use Rattle.order_window.specs.OrderLaws.{order_below}
 use Rattle.order_window.specs.GatheredLaws.{glyphs_many}
@@ -35,12 +36,12 @@ abbrev pub source_of : Manner → Order → Source
 source_of how o = record { how = how; ix = o.f.charstrings }
 
 -- the charstring of the i-th kept glyph
-abbrev pub charstring_at : Source → Font → List Row → List ℕ → List ℕ → List ℕ → ℕ → Option (List ℕ)
+abbrev pub charstring_at : Source → Font → List Row → List ℕ → List Ranks → List ℕ → ℕ → Option (List ℕ)
 charstring_at from f rows ws table b i =
     charstring_of from.how.way rows (program_of b f).fds ws table from.how.globals (items_of b from.ix) (get_or (glyphs_of b f ws) i 0)
 
 -- those of all
-abbrev pub charstrings_by : Source → Font → List Row → List ℕ → List ℕ → List ℕ → Option (List (List ℕ))
+abbrev pub charstrings_by : Source → Font → List Row → List ℕ → List Ranks → List ℕ → Option (List (List ℕ))
 charstrings_by from f rows ws table b = charstrings_of from.how.way rows (program_of b f).fds ws table from.how.globals (items_of b from.ix) (glyphs_of b f ws)
 
 -- the i-th glyph, whatever the window holds
@@ -48,7 +49,7 @@ pub glyph_stays : {old new : Kept} → Stays old new → (i : ℕ) → glyph_in 
 glyph_stays s i = stays-of (λ b f ws. glyph_of b f.select (get_or (glyphs_of b f ws) i 0)) _ _ s
 
 -- what they ask does not name what the window holds
-pub asked_again : (old new : Kept) → Stays old new → (table : List ℕ) (how : Manner) (rows : List Row)
+pub asked_again : (old new : Kept) → Stays old new → (table : List Ranks) (how : Manner) (rows : List Row)
     → CharstringsIn old.font.now old.words.now table old.o how rows → CharstringsIn new.font.now new.words.now table new.o how rows
 asked_again old new s table how rows c =
     let o : CharstringsIn old.font.now old.words.now table (record { f = old.o.f; count = old.o.count; held = new.o.held }) how rows

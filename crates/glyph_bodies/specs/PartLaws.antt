@@ -10,6 +10,7 @@ use Rattle.record.specs.Record.{rows_of}
 use Rattle.reach.specs.Reach.{rises}
 use Rattle.renumber.specs.Turn.{sized_of, body_of_lem}
 use Rattle.renumber.specs.Ranks.{calls_by}
+use Rattle.renumber.specs.declared.Ranks.{Ranks}
 use Rattle.mask_rows.specs.MaskRows.{SameMasks, Fillable, Covers}
 use Rattle.mask_rows.specs.declared.Window.{Window}
 use Rattle.bodies.specs.Ways.{holds, ranks_in}
@@ -19,7 +20,7 @@ use Rattle.glyph_bodies.specs.Glyphs.{GlyphIn, charstring_for, in_order}
 use Rattle.glyph_bodies.specs.declared.glyphs.Glyph.{Glyph}
 use Rattle.glyph_bodies.specs.declared.glyphs.Source.{Source}
 
-module _ (rec bytes : List ℕ) (w : Window) (covers : Covers rec bytes 2 0 w) {b ws table : List ℕ} {from : Source} {g : Glyph} (a : GlyphIn b ws table from g (rows_of rec))
+module _ (rec bytes : List ℕ) (w : Window) (covers : Covers rec bytes 2 0 w) {b ws : List ℕ} {table : List Ranks} {from : Source} {g : Glyph} (a : GlyphIn b ws table from g (rows_of rec))
     (part : List ℕ) (shown : part ≡ take w.len bytes) (from' : Source) (e : from' ≡ in_order from) where
   -- the part is asked in the same way
   part-kept : GlyphIn b ws table (in_order from) g (rows_of part)
@@ -60,5 +61,5 @@ module _ (rec bytes : List ℕ) (w : Window) (covers : Covers rec bytes 2 0 w) {
     part-writes v = writes_as v (ap body_of_lem part_same)
 
 -- a part from a glyph on can be filled
-pub fills_glyph : {b ws table : List ℕ} {from : Source} {g : Glyph} {rows : List Row} → GlyphIn b ws table from g rows → Fillable 2 0 g.number
+pub fills_glyph : {b ws : List ℕ} {table : List Ranks} {from : Source} {g : Glyph} {rows : List Row} → GlyphIn b ws table from g rows → Fillable 2 0 g.number
 fills_glyph a = record { kind_fits = omega arith; fd_fits = omega arith; few = omega (arith, a.inside, a.few) }

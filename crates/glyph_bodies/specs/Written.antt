@@ -2,7 +2,7 @@
 use Rattle.std.specs.Prelude.{ℕ, List, [], get_or, Option}
 use Rattle.index.specs.Index.{items_of}
 use Rattle.record.specs.Record.{rows_of}
-use Rattle.reach.specs.declared.Site.TheVariants.{Glyph as GlyphSite}
+use Rattle.unfold.specs.declared.Site.TheVariants.{Glyph as GlyphSite}
 use Rattle.renumber.specs.Bodies.{Reads}
 use Rattle.renumber.specs.declared.body.Body.{Body}
 use Rattle.bodies.specs.Ways.{ranks_in}

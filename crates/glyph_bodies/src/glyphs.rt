@@ -17,8 +17,8 @@ use mask_rows::Window;
 use mask_rows::lent::Lent;
 use octets::out::Out;
 use order_window::window::Kept;
-use reach::Site;
 use renumber::body::Body;
+use unfold::Site;
 
 // The charstrings of a font, and how they are written.
 #[derive(Clone, Copy)]
@@ -50,7 +50,7 @@ fn body_of<'a>(one: &Charstring<'a>) -> Body<'a>
 {
     let how = one.from.how;
     let number = one.glyph.number;
-    let locals = bodies::ranks_in(one.table, one.glyph.fd);
+    let locals = one.table[one.glyph.fd];
     let code = index::item(one.font, one.from.ix, number);
     let site = Site::Glyph(number as u16);
     Body::new(

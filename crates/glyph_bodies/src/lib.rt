@@ -24,6 +24,8 @@ use mask_rows::Window;
 use mask_rows::lent::Lent;
 use octets::out::Out;
 use order_window::window::Kept;
+use renumber::Ranks;
+use subset::Way;
 
 // A window that has the rows of no body.
 const NO_ROWS: Window = Window {
@@ -110,7 +112,7 @@ fn total_directly(all: &mut KeptBodies<'_, '_>) -> Option<usize>
 pub fn charstrings_total<'k, 'a>(
     kept: &'k mut Kept<'a>,
     how: Manner,
-    table: &'k [usize],
+    table: &'k [Ranks],
     rows: &'k [u8],
 ) -> Option<usize>
     requires { CharstringsIn kept.old.font.now kept.old.words.now table.now kept.old.o how (rows_of rows.now) }
@@ -126,7 +128,7 @@ pub fn charstrings_total<'k, 'a>(
     if how.rising {
         return total_directly(&mut all);
     }
-    if how.way.is_renumbered() {
+    if how.way == Way::Renumbered {
         return total_by_windows(&mut all);
     }
     total_directly(&mut all)
@@ -208,7 +210,7 @@ fn put_directly(all: KeptBodies<'_, '_>, total: usize, out: &mut Out<'_>)
 pub fn put_charstrings(
     kept: &mut Kept<'_>,
     how: Manner,
-    table: &[usize],
+    table: &[Ranks],
     rows: &[u8],
     total: usize,
     out: &mut Out<'_>,
@@ -227,7 +229,7 @@ pub fn put_charstrings(
     if how.rising {
         return put_directly(all, total, out);
     }
-    if how.way.is_renumbered() {
+    if how.way == Way::Renumbered {
         return put_by_windows(all, total, out);
     }
     put_directly(all, total, out)

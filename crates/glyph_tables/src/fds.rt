@@ -30,7 +30,7 @@ fn rank_all(kept: &mut Kept<'_>, table: &mut [u32]) -> usize
     ensures { (table.new ≡ ranks_of (λ d. is_in d (fds_kept kept.old)) 0 256) × (result ≡ count_below (λ d. is_in d (fds_kept kept.old)) 256)
         × Stays kept.old kept.new }
 {
-    reach::ranks::clear(&mut *table);
+    table.fill(0);
     mark_fds(kept, &mut *table);
     reach::ranks::rank_marks(table)
 }

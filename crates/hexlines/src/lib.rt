@@ -25,7 +25,8 @@ pub fn hex_value(b: u8) -> usize
     16
 }
 
-// The place of the first b, and the length where there is none.
+// The place of the first b, and the length where there is none. An Option is no plainer: where a line or a field ends, and which row of a report
+// counts a line, is the length there.
 pub fn place_of(s: &[u8], b: u8) -> usize
     ensures { (result ≡ before b s.now) × (result ≤ length s.now) }
 {

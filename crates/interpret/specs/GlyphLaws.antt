@@ -7,6 +7,7 @@ use Rattle.std.proofs.Math.ListN.{length}
 use Rattle.unfold.specs.Unfold.{Row, glyph, Run, broken as broke, returned as back, ended as done, run_body, Tok, Glyph, plain, glyph_of, unfold_glyph}
 use Rattle.unfold.specs.Unfold as bodies
 use Rattle.prune.specs.Bodies.{All}
+use Rattle.row_window.specs.Filled.{keeps_none}
 use Rattle.row_window.specs.declared.filling.Filling.{Filling}
 use Rattle.turns.specs.Turns.{Few}
 use Rattle.turns.specs.TargetLaws.{zero_one}
@@ -57,7 +58,7 @@ module _ (font : List ℕ) (q : Subrs) (g : ℕ) (code : List ℕ) (range : Rang
   glyph_empty e = by code e
     where
       by : (s : List ℕ) → length s ≡ 0 → Meets (unfolded s) range old old true
-      by [] k = record { says = (refl, notes_none range old) }
+      by [] k = record { says = (refl, notes_none range old); keeps = keeps_none old }
       by (b ∷ bs) k = absurd (omega (arith, k))
 
   -- any other: by how its run ends
@@ -69,7 +70,7 @@ module _ (font : List ℕ) (q : Subrs) (g : ℕ) (code : List ℕ) (range : Rang
   pub glyph_ran : (length code ≡ 0 → ⊥) → {new : Filling} {a : Ran} → Tells (trace_body (globals_in font q) (locals_in font q) q.fd 10 (glyph g) code fresh) range old new a
       → (b : Ran) → a ≡ b → Meets (unfold_glyph (globals_in font q) (locals_in font q) q.fd g code) range old new (met_by b)
   unfolding unfold_glyph
-  glyph_ran h {new} {a} u b f = record { says = subst (λ (r : Ran). Meeting (unfolded code) range old new (met_by r)) f (by code h u.says) }
+  glyph_ran h {new} {a} u b f = record { says = subst (λ (r : Ran). Meeting (unfolded code) range old new (met_by r)) f (by code h u.says); keeps = u.keeps }
     where
       told : (r : Run) → Telling (tell r) range old new a → Meeting (glyph_of r) range old new (met_by a)
       told broke p = ap met_by p

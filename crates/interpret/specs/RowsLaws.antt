@@ -6,7 +6,7 @@ use Rattle.octets.specs.Pick.{pick, pick_ind}
 use Rattle.unfold.specs.Unfold.{Row, Site, glyph, entered, masked, is_glyph}
 use Rattle.prune.specs.Bodies.{All, empty, one}
 use Rattle.turns.specs.Turns.{Few, turn_at_lem}
-use Rattle.turns.specs.TurnLaws.{Sound, turn_sound}
+use Rattle.turns.specs.TurnLaws.{Sound, turn_sound, FewAfter, turn_few}
 use Rattle.turns.specs.declared.Counts.{Counts}
 use Rattle.turns.specs.declared.Turn.{Turn}
 use Rattle.turns.specs.declared.Turn.TheVariants.{Breaks, Returns, Ends, Goes, Masks, Calls}
@@ -46,18 +46,18 @@ module _ (globals locals : List (List ℕ)) (fd g : ℕ) (code : List ℕ) where
   module _ (enter : Site → List ℕ → Counts → Trace) (enters : (t : Site) (s : List ℕ) (x : Counts) → R t s → Few x → P (enter t s x))
       (site : Site) (s : List ℕ) (run : R site s) where
     proper_turn : (on : ℕ → ℕ → Counts → Trace) → ((n p : ℕ) (x : Counts) → Few x → P (on n p x)) → (at : ℕ) (t : Turn)
-        → Sound (length locals) (length globals) s at t → P (turned globals locals fd enter on site at t)
-    proper_turn on ons at Breaks k = tt
-    proper_turn on ons at (Returns x) k = (k, empty)
-    proper_turn on ons at Ends k = empty
-    proper_turn on ons at (Goes n p x) k = ons n p x k.2
-    proper_turn on ons at (Masks len x) k =
-        proper_meets (masked site at len ∷ []) (on (at + 1 + len) (at + 1 + len) x) (one (masking at len run k.1 k.0) empty) (ons (at + 1 + len) (at + 1 + len) x k.2)
-    proper_turn on ons at (Calls wide i x) k =
-        let r = runs_for wide i k.0 in
+        → Sound (length locals) (length globals) s at t → FewAfter t → P (turned globals locals fd enter on site at t)
+    proper_turn on ons at Breaks k f = tt
+    proper_turn on ons at (Returns x) k f = (f, empty)
+    proper_turn on ons at Ends k f = empty
+    proper_turn on ons at (Goes n p x) k f = ons n p x f
+    proper_turn on ons at (Masks len x) k f =
+        proper_meets (masked site at len ∷ []) (on (at + 1 + len) (at + 1 + len) x) (one (masking at len run k.1 k.0) empty) (ons (at + 1 + len) (at + 1 + len) x f)
+    proper_turn on ons at (Calls wide i x) k f =
+        let r = runs_for wide i k in
         let t = site_for fd wide i in
         proper_meets (entered t ∷ []) (afterwards (enter t (body_for globals locals wide i) x) (on (at + 1) (at + 1))) (one (entering r (no_glyph wide i)) empty)
-        (proper_after (enter t (body_for globals locals wide i) x) (on (at + 1) (at + 1)) (enters t (body_for globals locals wide i) x r k.1) (λ y f. ons (at + 1) (at + 1) y f))
+        (proper_after (enter t (body_for globals locals wide i) x) (on (at + 1) (at + 1)) (enters t (body_for globals locals wide i) x r f) (λ y g. ons (at + 1) (at + 1) y g))
 
     proper_walk : (k at prev : ℕ) (x : Counts) → Few x → P (trace_walk globals locals fd enter k site s at prev x)
     unfolding trace_walk
@@ -65,7 +65,8 @@ module _ (globals locals : List (List ℕ)) (fd g : ℕ) (code : List ℕ) where
     proper_walk (suc k) at prev x f =
         pick_ind P (ltb at (length s)) _ broken
         (λ e. proper_turn (λ n p y. trace_walk globals locals fd enter k site s n p y) (λ n p y h. proper_walk k n p y h) at (turn_at_lem (length locals) (length globals) (is_glyph site) s at prev x)
-        (turn_sound (length locals) (length globals) s at (ltb-true at (length s) e) (is_glyph site) prev x f)) (λ e. tt)
+        (turn_sound (length locals) (length globals) s at (ltb-true at (length s) e) (is_glyph site) prev x)
+        (turn_few s at (length locals) (length globals) (is_glyph site) prev x f)) (λ e. tt)
 
   pub proper_body : (d : ℕ) (site : Site) (s : List ℕ) (x : Counts) → R site s → Few x → P (trace_body globals locals fd d site s x)
   unfolding trace_body

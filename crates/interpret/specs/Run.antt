@@ -3,25 +3,19 @@ use Rattle.std.specs.Prelude.{ℕ, ◌≤◌, ◌<◌, ◌≡◌, Bool, true, fa
 use Rattle.index.specs.Index.{items_of}
 use Rattle.index.specs.Good.{Good}
 use Rattle.unfold.specs.Unfold.{Row, Glyph, not_plain_lem, plain}
-use Rattle.unfold.specs.Unfold as bodies
+use Rattle.unfold.specs.Sites.{site_of}
 use Rattle.row_window.specs.Key.{key_of_lem}
 use Rattle.row_window.specs.Window.{within}
-use Rattle.row_window.specs.Filled.{Adds}
+use Rattle.row_window.specs.Filled.{Adds, Keeps}
 use Rattle.row_window.specs.declared.filling.Filling.{Filling}
 use Rattle.interpret.specs.Trace.{Trace, broken, returned, ended, trace_body, trace_call}
 use Rattle.turns.specs.declared.Counts.{Counts}
 use Rattle.interpret.specs.declared.Subrs.{Subrs}
 use Rattle.interpret.specs.declared.Range.{Range}
-use Rattle.interpret.specs.declared.Site.{Site}
-use Rattle.interpret.specs.declared.Site.TheVariants.{Glyph as InGlyph, Local, Global}
+use Rattle.unfold.specs.declared.Site.{Site}
+use Rattle.unfold.specs.declared.Site.TheVariants.{Local, Global}
 use Rattle.interpret.specs.declared.Ran.{Ran}
 use Rattle.interpret.specs.declared.Ran.TheVariants.{Broken, Returned, Ended}
-
--- a body as the definitions name it
-abbrev pub site_of : Site → bodies.Site
-site_of (InGlyph g) = bodies.glyph g
-site_of (Local fd k) = bodies.local fd k
-site_of (Global k) = bodies.global k
 
 -- the subroutine that a call enters
 abbrev pub site_in : ℕ → Bool → ℕ → Site
@@ -58,7 +52,7 @@ key_for r = key_of_lem r.kind r.fd r.number r.offset r.len
 abbrev pub Notes : Range → List Row → Filling → Filling → Type 0
 Notes range rows old new = Adds (within range.low range.high (map key_for rows)) old new
 
--- what a body's run answers, and what it leaves in the window
+-- what a body's run answers, and what it leaves in the window; the lent keys stay whatever it answers
 abbrev pub Telling : Trace → Range → Filling → Filling → Ran → Type 0
 Telling broken range old new r = r ≡ Broken
 Telling (returned x rows) range old new r = (r ≡ Returned x) × Notes range rows old new
@@ -66,6 +60,7 @@ Telling (ended rows) range old new r = (r ≡ Ended) × Notes range rows old new
 
 pub record Tells (t : Trace) (range : Range) (old new : Filling) (r : Ran) : Type 0 where
   pub says : Telling t range old new r
+  pub keeps : Keeps old new
 
 -- the same of a glyph, over its unfolding
 abbrev pub Meeting : Glyph → Range → Filling → Filling → Bool → Type 0
@@ -74,3 +69,4 @@ Meeting (plain ts rows) range old new r = (r ≡ true) × Notes range rows old n
 
 pub record Meets (g : Glyph) (range : Range) (old new : Filling) (r : Bool) : Type 0 where
   pub says : Meeting g range old new r
+  pub keeps : Keeps old new

@@ -10,7 +10,7 @@ use Rattle.unfold.specs.Unfold.{Row, Site, entered, masked, is_glyph}
 use Rattle.row_window.specs.Window.{within}
 use Rattle.row_window.specs.Filled.{adds_none, adds_as, adds_then}
 use Rattle.row_window.specs.declared.filling.Filling.{Filling}
-use Rattle.turns.specs.Turns.{Few, turn_at_lem}
+use Rattle.turns.specs.Turns.{turn_at_lem}
 use Rattle.turns.specs.TargetLaws.{zero_one}
 use Rattle.turns.specs.TurnLaws.{Sound, turn_sound}
 use Rattle.turns.specs.declared.Counts.{Counts}
@@ -18,12 +18,11 @@ use Rattle.turns.specs.declared.Turn.{Turn}
 use Rattle.turns.specs.declared.Turn.TheVariants.{Breaks, Returns, Ends, Goes, Masks, Calls}
 use Rattle.interpret.specs.Trace.{Trace, broken, returned, ended, meets, afterwards, site_for, body_for, turned, trace_walk, trace_body, enter_at, trace_call}
 use Rattle.interpret.specs.TraceLaws.{meets-none, meets-both, meets-after}
-use Rattle.interpret.specs.Rows.{Proper}
-use Rattle.interpret.specs.RowsLaws.{proper_call}
-use Rattle.interpret.specs.Run.{site_of, site_in, globals_in, locals_in, key_for, Notes, Telling}
+use Rattle.unfold.specs.Sites.{site_of}
+use Rattle.interpret.specs.Run.{site_in, globals_in, locals_in, key_for, Notes, Telling}
 use Rattle.interpret.specs.declared.Subrs.{Subrs}
 use Rattle.interpret.specs.declared.Range.{Range}
-use Rattle.interpret.specs.declared.Site.{Site as Body}
+use Rattle.unfold.specs.declared.Site.{Site as Body}
 use Rattle.interpret.specs.declared.Ran.{Ran}
 use Rattle.interpret.specs.declared.Ran.TheVariants.{Broken, Returned, Ended}
 
@@ -82,15 +81,13 @@ module _ (globals locals : List (List ℕ)) (fd d : ℕ) (site : Site) (s : List
   pub record Going (whole : Trace) (range : Range) (old now : Filling) (at prev : ℕ) (x : Counts) : Type 0 where
     pub fuel : ℕ
     pub enough : length s ≤ at + fuel
-    pub few : Few x
     pub rows : List Row
     pub noting : Notes range rows old now
     pub left : whole ≡ meets rows (rest fuel at prev x)
 
-  pub going_start : (range : Range) (w : Filling) (x : Counts) → Few x
-      → Going (trace_body globals locals fd d site s x) range w w 0 0 x
-  going_start range w x f =
-      record { fuel = length s; enough = omega arith; few = f; rows = []; noting = notes_none range w; left = run_walks x ∙ sym (meets-none _) }
+  pub going_start : (range : Range) (w : Filling) (x : Counts) → Going (trace_body globals locals fd d site s x) range w w 0 0 x
+  going_start range w x =
+      record { fuel = length s; enough = omega arith; rows = []; noting = notes_none range w; left = run_walks x ∙ sym (meets-none _) }
 
   -- a turn inside a body
   turn_at : (k at prev : ℕ) (x : Counts) → at < length s → length s ≤ at + k
@@ -114,7 +111,7 @@ module _ (globals locals : List (List ℕ)) (fd d : ℕ) (site : Site) (s : List
     whole_is t f = g.left ∙ ap (meets g.rows) (turn.2 ∙ ap (turned globals locals fd (enter_at globals locals fd d) (λ m p y. rest turn.0 m p y) site at) (sym e ∙ f))
 
     pub sound : (t : Turn) → r ≡ t → Sound (length locals) (length globals) s at t
-    sound t f = subst (Sound (length locals) (length globals) s at) (sym e ∙ f) (turn_sound (length locals) (length globals) s at h (is_glyph site) prev x g.few)
+    sound t f = subst (Sound (length locals) (length globals) s at) (sym e ∙ f) (turn_sound (length locals) (length globals) s at h (is_glyph site) prev x)
 
     -- it breaks, returns, ends
     pub going_breaks : r ≡ Breaks → Telling whole range old now Broken
@@ -133,7 +130,7 @@ module _ (globals locals : List (List ℕ)) (fd d : ℕ) (site : Site) (s : List
     pub going_on : (m p : ℕ) (y : Counts) → r ≡ Goes m p y → Going whole range old now m p y
     going_on m p y f =
         let k = sound (Goes m p y) f in
-        record { fuel = turn.0; enough = omega (arith, turn.1); few = k.2; rows = g.rows; noting = g.noting; left = whole_is (Goes m p y) f }
+        record { fuel = turn.0; enough = omega (arith, turn.1); rows = g.rows; noting = g.noting; left = whole_is (Goes m p y) f }
 
     -- a mask is met
     pub going-mask : (len : ℕ) (y : Counts) → r ≡ Masks len y → (new : Filling) → Notes range (masked site at len ∷ []) now new
@@ -143,7 +140,6 @@ module _ (globals locals : List (List ℕ)) (fd d : ℕ) (site : Site) (s : List
         (record {
           fuel = turn.0;
           enough = omega (arith, turn.1);
-          few = (sound (Masks len y) f).2;
           rows = g.rows ++ (masked site at len ∷ []);
           noting = notes_both range g.rows (masked site at len ∷ []) g.noting t;
           left = whole_is (Masks len y) f ∙ meets-both g.rows (masked site at len ∷ []) (rest turn.0 (at + 1 + len) (at + 1 + len) y);
@@ -164,11 +160,6 @@ module _ (globals locals : List (List ℕ)) (fd d : ℕ) (site : Site) (s : List
       told : (v : Trace) → called ≡ v → Telling v range now new a
       told v j = subst (λ (t : Trace). Telling t range now new a) j u
 
-      few-after : (v : Counts) (rs : List Row) → called ≡ returned v rs → Few v
-      few-after v rs j =
-          let k = sound (Calls wide i y) f in
-          (subst (Proper globals locals fd 0 []) j (proper_call globals locals fd 0 [] d wide i y k.0 k.1)).0
-
       -- it returned
       pub going-returned : (z : Counts) → a ≡ Returned z → Going whole range old new (at + 1) (at + 1) z
       going-returned z q = by called refl
@@ -185,7 +176,6 @@ module _ (globals locals : List (List ℕ)) (fd d : ℕ) (site : Site) (s : List
               record {
                 fuel = turn.0;
                 enough = omega (arith, turn.1);
-                few = subst Few w (few-after v rs j);
                 rows = g.rows ++ rs;
                 noting = notes_both range g.rows rs g.noting k.1;
                 left = whole-calls (returned v rs) j ∙ meets-both g.rows rs (rest turn.0 (at + 1) (at + 1) v)

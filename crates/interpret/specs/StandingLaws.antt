@@ -4,17 +4,19 @@ use Rattle.std.proofs.Common.{sym, ap, ◌∙◌, subst, arith}
 use Rattle.octets.specs.Pick.{pick}
 use Rattle.index.specs.IndexLaws.{items-length, item-short}
 use Rattle.unfold.specs.Unfold.{Site, entered, masked, is_glyph}
+use Rattle.row_window.specs.Filled.{Keeps, adds_keep, keeps_none, keeps_then}
 use Rattle.row_window.specs.declared.filling.Filling.{Filling}
-use Rattle.turns.specs.Turns.{Few, turn_at_lem}
+use Rattle.turns.specs.Turns.{turn_at_lem}
 use Rattle.turns.specs.declared.Counts.{Counts}
 use Rattle.turns.specs.declared.Turn.{Turn}
 use Rattle.turns.specs.declared.Turn.TheVariants.{Breaks, Returns, Ends, Goes, Masks, Calls}
 use Rattle.interpret.specs.Trace.{Trace, site_for, body_for, trace_body}
-use Rattle.interpret.specs.Run.{site_of, site_in, globals_in, locals_in, Ready, Notes, Telling, Tells, whole_of, call_of}
+use Rattle.unfold.specs.Sites.{site_of}
+use Rattle.interpret.specs.Run.{site_in, globals_in, locals_in, Ready, Notes, Telling, Tells, whole_of, call_of}
 use Rattle.interpret.specs.RunLaws.{turn-told, site_as, Going, going_start, sound, going_breaks, going_returns, going-ends, going_on, going-mask, going-returned, going_ended, going_broken, going_off, call_deep, call_runs}
 use Rattle.interpret.specs.declared.Subrs.{Subrs}
 use Rattle.interpret.specs.declared.Range.{Range}
-use Rattle.interpret.specs.declared.Site.{Site as Body}
+use Rattle.unfold.specs.declared.Site.{Site as Body}
 use Rattle.interpret.specs.declared.Ran.{Ran}
 use Rattle.interpret.specs.declared.Ran.TheVariants.{Broken, Returned, Ended}
 
@@ -26,10 +28,10 @@ pub record Standing (font : List ℕ) (q : Subrs) (depth : ℕ) (site : Body) (c
   pub going : Going (globals_in font q) (locals_in font q) q.fd depth (site_of site) code (whole_of font q depth site code start) range old now at prev x
 
 pub stand_start : (font : List ℕ) (q : Subrs) (depth : ℕ) (site : Body) (code : List ℕ) (start : Counts) (range : Range) (w : Filling) (own : Bool)
-    → Ready font q → length code ≤ 67108864 → Few start → own ≡ is_glyph (site_of site)
+    → Ready font q → length code ≤ 67108864 → own ≡ is_glyph (site_of site)
     → Standing font q depth site code start range w own w 0 0 start
-stand_start font q depth site code start range w own r s f e =
-    record { ready = r; size = s; kind = e; going = going_start (globals_in font q) (locals_in font q) q.fd depth (site_of site) code range w start f }
+stand_start font q depth site code start range w own r s e =
+    record { ready = r; size = s; kind = e; going = going_start (globals_in font q) (locals_in font q) q.fd depth (site_of site) code range w start }
 
 -- a subroutine that is named, by the counts
 counted : (font : List ℕ) (q : Subrs) (wide : Bool) (i : ℕ) → i < pick wide (length (globals_in font q)) (length (locals_in font q)) → i < pick wide q.globals.count q.locals.count
@@ -66,8 +68,8 @@ module _ {font : List ℕ} {q : Subrs} {depth : ℕ} {site : Body} {code : List 
   abbrev whole : Trace
   whole = whole_of font q depth site code start
 
-  pub stand_few : Few x
-  stand_few = w.going.few
+  kept : Keeps old now
+  kept = adds_keep w.going.noting
 
   -- the same with the loop further on
   onward : {new : Filling} {at' prev' : ℕ} {y : Counts} → Going G L q.fd depth (site_of site) code whole range old new at' prev' y
@@ -75,20 +77,20 @@ module _ {font : List ℕ} {q : Subrs} {depth : ℕ} {site : Body} {code : List 
   onward g = record { ready = w.ready; size = w.size; kind = w.kind; going = g }
 
   pub stand_off : length code ≤ at → Tells whole range old now Broken
-  stand_off h = record { says = going_off G L q.fd depth (site_of site) code whole range old now at prev x w.going h }
+  stand_off h = record { says = going_off G L q.fd depth (site_of site) code whole range old now at prev x w.going h; keeps = kept }
 
   module _ (h : at < length code) {r : Turn} (e : r ≡ turn_at_lem q.locals.count q.globals.count own code at prev x) where
     told : r ≡ turn_at_lem (length L) (length G) (is_glyph (site_of site)) code at prev x
     told = turn-told font q site own w.kind code at prev x r e
 
     pub stand_breaks : r ≡ Breaks → Tells whole range old now Broken
-    stand_breaks f = record { says = going_breaks G L q.fd depth (site_of site) code whole range old now at prev x w.going h r told f }
+    stand_breaks f = record { says = going_breaks G L q.fd depth (site_of site) code whole range old now at prev x w.going h r told f; keeps = kept }
 
     pub stand_returns : (y : Counts) → r ≡ Returns y → Tells whole range old now (Returned y)
-    stand_returns y f = record { says = going_returns G L q.fd depth (site_of site) code whole range old now at prev x w.going h r told y f }
+    stand_returns y f = record { says = going_returns G L q.fd depth (site_of site) code whole range old now at prev x w.going h r told y f; keeps = kept }
 
     pub stand_ends : r ≡ Ends → Tells whole range old now Ended
-    stand_ends f = record { says = going-ends G L q.fd depth (site_of site) code whole range old now at prev x w.going h r told f }
+    stand_ends f = record { says = going-ends G L q.fd depth (site_of site) code whole range old now at prev x w.going h r told f; keeps = kept }
 
     -- on in the same body
     module _ (m p : ℕ) (y : Counts) (f : r ≡ Goes m p y) where
@@ -114,17 +116,17 @@ module _ {font : List ℕ} {q : Subrs} {depth : ℕ} {site : Body} {code : List 
 
     -- a call
     module _ (wide : Bool) (i : ℕ) (y : Counts) (f : r ≡ Calls wide i y) where
-      pub call_asks : (i < pick wide q.globals.count q.locals.count) × (Few y)
+      pub call_asks : i < pick wide q.globals.count q.locals.count
       call_asks =
           let k = sound G L q.fd depth (site_of site) code whole range old now at prev x w.going h r told (Calls wide i y) f in
-          (counted font q wide i k.0, k.1)
+          counted font q wide i k
 
       module _ {new : Filling} {v : Ran} (u : Tells (call_of font q depth wide i y) range now new v) where
         pub stand_broken : v ≡ Broken → Tells whole range old new Broken
-        stand_broken k = record { says = going_broken G L q.fd depth (site_of site) code whole range old now at prev x w.going h r told wide i y f new v u.says k }
+        stand_broken k = record { says = going_broken G L q.fd depth (site_of site) code whole range old now at prev x w.going h r told wide i y f new v u.says k; keeps = keeps_then kept u.keeps }
 
         pub stand_ended : v ≡ Ended → Tells whole range old new Ended
-        stand_ended k = record { says = going_ended G L q.fd depth (site_of site) code whole range old now at prev x w.going h r told wide i y f new v u.says k }
+        stand_ended k = record { says = going_ended G L q.fd depth (site_of site) code whole range old now at prev x w.going h r told wide i y f new v u.says k; keeps = keeps_then kept u.keeps }
 
         pub stand_returned : (z : Counts) → v ≡ Returned z → Standing font q depth site code start range old own new (at + 1) (at + 1) z
         stand_returned z k = onward (going-returned G L q.fd depth (site_of site) code whole range old now at prev x w.going h r told wide i y f new v u.says z k)
@@ -140,7 +142,7 @@ module _ {font : List ℕ} {q : Subrs} (ready : Ready font q) (wide : Bool) (i :
     pub entered_ran : (depth : ℕ) (x : Counts) (range : Range) (old : Filling) → (depth ≡ 0 → ⊥) → {mid : Filling} → Notes range (entered (site_of t) ∷ []) old mid
         → {new : Filling} {v : Ran} → Tells (whole_of font q (depth - 1) t b x) range mid new v → Tells (call_of font q depth wide i x) range old new v
     entered_ran depth x range old deep {mid} c {new} {v} u =
-        record { says = call_runs (globals_in font q) (locals_in font q) q.fd depth wide i x range old deep mid noted new v ran }
+        record { says = call_runs (globals_in font q) (locals_in font q) q.fd depth wide i x range old deep mid noted new v ran; keeps = keeps_then (adds_keep c) u.keeps }
       where
         noted : Notes range (entered (site_for q.fd wide i) ∷ []) old mid
         noted = subst (λ (s : Site). Notes range (entered s ∷ []) old mid) (site_as q.fd wide i t a) c
@@ -153,4 +155,4 @@ module _ {font : List ℕ} {q : Subrs} (ready : Ready font q) (wide : Bool) (i :
 -- a call too deep
 pub too_deep : (font : List ℕ) (q : Subrs) (depth : ℕ) (wide : Bool) (i : ℕ) (x : Counts) (range : Range) (w : Filling) → depth ≡ 0
     → Tells (call_of font q depth wide i x) range w w Broken
-too_deep font q depth wide i x range w z = record { says = call_deep (globals_in font q) (locals_in font q) q.fd depth wide i x range w z }
+too_deep font q depth wide i x range w z = record { says = call_deep (globals_in font q) (locals_in font q) q.fd depth wide i x range w z; keeps = keeps_none w }

@@ -9,15 +9,16 @@ ghost use Rattle.std.specs.Prelude.{◌≡◌, [], ◌∷◌, ◌≤◌, ◌<◌
 ghost use Rattle.octets.specs.Pick.{pick};
 ghost use Rattle.unfold.specs.Unfold.{entered, masked, is_glyph, unfold_glyph};
 ghost use Rattle.row_window.specs.Key.{key_of_lem};
-ghost use Rattle.turns.specs.Turns.{Few};
 ghost use Rattle.interpret.specs.Trace.{body_for};
-ghost use Rattle.interpret.specs.Run.{site_of, site_in, globals_in, locals_in, whole_of, call_of, key_for, Notes, Tells, Meets};
+ghost use Rattle.unfold.specs.Sites.{site_of};
+ghost use Rattle.interpret.specs.Run.{site_in, globals_in, locals_in, whole_of, call_of, key_for, Notes, Tells, Meets};
 
 use crate::callees::Callees;
 use crate::mask::Mask;
 use index::Index;
 use row_window::filling::Filling;
 use turns::{Counts, Turn, turn_at};
+use unfold::Site;
 
 // The subroutines that a glyph can call: the global ones, and the local ones of its FD.
 #[derive(Clone, Copy)]
@@ -34,15 +35,8 @@ pub struct Range {
     pub high: u64,
 }
 
-// The body that runs: a glyph's charstring, a local or a global subroutine.
-#[derive(Clone, Copy)]
-pub enum Site {
-    Glyph(u16),
-    Local { fd: u8, number: u16 },
-    Global(u16),
-}
-
 // How a body's run ends: in what is not plain, by return with the counts then, or by endchar.
+// (It stays an enum: endchar ends the glyph as it should, and is neither the failure of a Result nor an Option's None.)
 #[derive(Clone, Copy)]
 pub enum Ran {
     Broken,
@@ -50,7 +44,7 @@ pub enum Ran {
     Ended,
 }
 
-// A row as one number, of which the kind, a number too, is the highest part.
+// A row as one number, of which the kind, a number too, is the highest part. (Kind and FD are no struct: each call names both.)
 fn row_key(kind: u8, fd: u8, number: u16, mask: Mask) -> u64
     requires { kind ≤ 4 }
     ensures { result ≡ key_of_lem kind fd number mask.offset mask.len }
@@ -141,7 +135,7 @@ fn enter(
     range: Range,
     filling: &mut Filling<'_>,
 ) -> Ran
-    requires { (number < pick global from.now.q.globals.count from.now.q.locals.count) × (Few x) }
+    requires { number < pick global from.now.q.globals.count from.now.q.locals.count }
     ensures { Tells (call_of from.now.font.now from.now.q depth global number x) range filling.old filling.new result }
 {
     if depth == 0 {
@@ -164,7 +158,7 @@ fn run_body(
     range: Range,
     filling: &mut Filling<'_>,
 ) -> Ran
-    requires { (length code.now ≤ 67108864) × (Few start) }
+    requires { length code.now ≤ 67108864 }
     ensures { Tells (whole_of from.now.font.now from.now.q depth site code.now start) range filling.old filling.new result }
 {
     let own = is_glyph(site);
@@ -205,8 +199,8 @@ fn run_body(
     Ran::Broken
 }
 
-// A glyph, by the subroutines of its FD, run from its charstring: whether it is plain, and then the rows that it meets are noted in the window; of
-// the window of another nothing is said. An empty one is plain.
+// A glyph, by the subroutines of its FD, run from its charstring: whether it is plain, and then the rows that it meets are noted in the window; where
+// it is not plain, nothing is said of the rows in it. The lent keys stay either way. An empty one is plain.
 pub fn run_glyph(
     from: &Callees<'_>,
     g: u16,

@@ -9,11 +9,12 @@ use Rattle.octets.specs.PutLaws.{wrote-length}
 use Rattle.unfold.specs.Unfold.{Row, Site, masked}
 use Rattle.record.specs.Record.{rows_of, rows_from, lists, given_in, two_lengths_lem}
 use Rattle.subset.specs.Kept.{is_in}
-use Rattle.reach.specs.Reach.{site_of, rises}
+use Rattle.unfold.specs.Sites.{site_of}
+use Rattle.reach.specs.Reach.{rises}
 use Rattle.reach.specs.RowLaws.{all_fit}
 use Rattle.reach.specs.Cases.{by_order}
-use Rattle.reach.specs.declared.Site as code
-use Rattle.reach.specs.declared.Site.TheVariants.{Glyph, Local, Global}
+use Rattle.unfold.specs.declared.Site as code
+use Rattle.unfold.specs.declared.Site.TheVariants.{Glyph, Local, Global}
 use Rattle.row_window.specs.Window.{within, Below, none, one, Gathers}
 use Rattle.row_window.specs.MergeLaws.{gathers-few}
 use Rattle.row_window.specs.NextLaws.{window-whole, window-next, front-inside}
@@ -172,8 +173,8 @@ module _ (rec : List ℕ) (octets : Octets rec) (s : code.Site) (once : two_leng
   is o l = site_mask s o l ∙ ap (λ (x : Body). mask x.kind x.fd x.number o l) (sym e)
 
   -- what writing the rows asks
-  pub fill_room : (n ≤ length keys) × (10 * n ≤ length was)
-  fill_room = (g.window.fits, omega (arith, gathers-few g, lent.room))
+  pub fill_room : 10 * length (take n keys) ≤ length was
+  fill_room = omega (arith, length-take-le n keys g.window.fits, gathers-few g, lent.room)
 
   -- the end is behind the offset
   pub fill_past : (end : ℕ) → end ≡ end_of keys n to → offset < end

@@ -16,11 +16,12 @@ use Rattle.octets.specs.Octets.{Octets}
 use Rattle.unfold.specs.Unfold.{Row, Site, masked}
 use Rattle.record.specs.Record.{rows_of, lists, two_lengths_lem}
 use Rattle.subset.specs.Kept.{is_in}
-use Rattle.reach.specs.Reach.{Fits, site_of}
+use Rattle.unfold.specs.Sites.{site_of}
+use Rattle.reach.specs.Reach.{Fits}
 use Rattle.reach.specs.RowLaws.{all_fit}
 use Rattle.reach.specs.Cases.{by_number, by_order}
-use Rattle.reach.specs.declared.Site as code
-use Rattle.reach.specs.declared.Site.TheVariants.{Glyph, Local, Global}
+use Rattle.unfold.specs.declared.Site as code
+use Rattle.unfold.specs.declared.Site.TheVariants.{Glyph, Local, Global}
 use Rattle.row_window.specs.Window.{within, Above, Rising, none, one, Gathers}
 use Rattle.row_window.specs.WindowLaws.{above-less, rising-gathered}
 use Rattle.row_window.specs.MergeLaws.{gathers-few}
@@ -175,39 +176,33 @@ two-few [] h = refl
 two-few (x ∷ []) h = refl
 two-few (x ∷ y ∷ l) h = absurd (omega arith)
 
-module _ (keys : List ℕ) (n : ℕ) (fits : n ≤ length keys) where
-  abbrev front : List ℕ
-  front = take n keys
-
-  pub pass-start : two_in_lem (drop (1 - 1) front) ≡ two_in_lem front
+module _ (keys : List ℕ) where
+  pub pass-start : two_in_lem (drop (1 - 1) keys) ≡ two_in_lem keys
   pass-start = refl
 
-  module _ (i : ℕ) (some : 0 < i) (w : two_in_lem (drop (i - 1) front) ≡ two_in_lem front) where
-    here : i < n → two_in_lem (drop (i - 1) front) ≡ pick (eqb (get_or keys (i - 1) 0 / 65536) (get_or keys i 0 / 65536)) true (two_in_lem (drop (i + 1 - 1) front))
+  module _ (i : ℕ) (some : 0 < i) (w : two_in_lem (drop (i - 1) keys) ≡ two_in_lem keys) where
+    here : i < length keys → two_in_lem (drop (i - 1) keys) ≡ pick (eqb (get_or keys (i - 1) 0 / 65536) (get_or keys i 0 / 65536)) true (two_in_lem (drop (i + 1 - 1) keys))
     unfolding two_in_lem
     here h =
-        let size = length-take-le n keys fits in
         let s : suc (i - 1) ≡ i = omega arith in
         let t : i + 1 - 1 ≡ i = omega arith in
-        let a : drop (i - 1) front ≡ get_or keys (i - 1) 0 ∷ drop i front
-        = drop-cons front (i - 1) 0 (omega (arith, size)) ∙ ap (λ (x : ℕ). x ∷ drop (suc (i - 1)) front) (get_or-take n keys (i - 1) 0 (omega arith))
-        ∙ ap (λ (m : ℕ). get_or keys (i - 1) 0 ∷ drop m front) s in
-        let b : drop i front ≡ get_or keys i 0 ∷ drop (suc i) front
-        = drop-cons front i 0 (omega (arith, size)) ∙ ap (λ (x : ℕ). x ∷ drop (suc i) front) (get_or-take n keys i 0 h) in
-        let c : drop (i + 1 - 1) front ≡ get_or keys i 0 ∷ drop (suc i) front = ap (λ (m : ℕ). drop m front) t ∙ b in
+        let a : drop (i - 1) keys ≡ get_or keys (i - 1) 0 ∷ drop i keys
+        = drop-cons keys (i - 1) 0 (omega arith) ∙ ap (λ (m : ℕ). get_or keys (i - 1) 0 ∷ drop m keys) s in
+        let b : drop i keys ≡ get_or keys i 0 ∷ drop (suc i) keys = drop-cons keys i 0 h in
+        let c : drop (i + 1 - 1) keys ≡ get_or keys i 0 ∷ drop (suc i) keys = ap (λ (m : ℕ). drop m keys) t ∙ b in
         ap two_in_lem (a ∙ ap (λ (l : List ℕ). get_or keys (i - 1) 0 ∷ l) b)
         ∙ ap (λ (l : List ℕ). pick (eqb (get_or keys (i - 1) 0 / 65536) (get_or keys i 0 / 65536)) true (two_in_lem l)) (sym c)
 
-    pub pass-found : i < n → get_or keys (i - 1) 0 / 65536 ≡ get_or keys i 0 / 65536 → true ≡ two_in_lem front
-    pass-found h e = sym (sym w ∙ here h ∙ either_left (eqb (get_or keys (i - 1) 0 / 65536) (get_or keys i 0 / 65536)) (two_in_lem (drop (i + 1 - 1) front)) (eq-eqb _ _ e))
+    pub pass-found : i < length keys → get_or keys (i - 1) 0 / 65536 ≡ get_or keys i 0 / 65536 → true ≡ two_in_lem keys
+    pass-found h e = sym (sym w ∙ here h ∙ either_left (eqb (get_or keys (i - 1) 0 / 65536) (get_or keys i 0 / 65536)) (two_in_lem (drop (i + 1 - 1) keys)) (eq-eqb _ _ e))
 
-    pub pass_on : i < n → (get_or keys (i - 1) 0 / 65536 ≡ get_or keys i 0 / 65536 → ⊥) → two_in_lem (drop (i + 1 - 1) front) ≡ two_in_lem front
+    pub pass_on : i < length keys → (get_or keys (i - 1) 0 / 65536 ≡ get_or keys i 0 / 65536 → ⊥) → two_in_lem (drop (i + 1 - 1) keys) ≡ two_in_lem keys
     pass_on h e =
         let f = ne_eqb (get_or keys (i - 1) 0 / 65536) (get_or keys i 0 / 65536) e in
-        sym (ap (λ (t : Bool). pick t true (two_in_lem (drop (i + 1 - 1) front))) f) ∙ sym (here h) ∙ w
+        sym (ap (λ (t : Bool). pick t true (two_in_lem (drop (i + 1 - 1) keys))) f) ∙ sym (here h) ∙ w
 
-    pub pass_done : n ≤ i → false ≡ two_in_lem front
-    pass_done h = sym (two-few (drop (i - 1) front) (short (i - 1) front (omega (arith, length-take-le n keys fits)))) ∙ w
+    pub pass_done : length keys ≤ i → false ≡ two_in_lem keys
+    pass_done h = sym (two-few (drop (i - 1) keys) (short (i - 1) keys (omega arith))) ∙ w
       where
         short : (m : ℕ) (l : List ℕ) → length l ≤ m + 1 → length (drop m l) ≤ 1
         short zero l q = omega arith

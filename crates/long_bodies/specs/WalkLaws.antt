@@ -12,8 +12,9 @@ use Rattle.unfold.specs.Unfold.{Row, Site}
 use Rattle.record.specs.Record.{rows_of, given_in, two_lengths_lem}
 use Rattle.prune.specs.Renumber.{Calls, renumber_charstring}
 use Rattle.subset.specs.Pruned.{renumbered_body}
-use Rattle.reach.specs.Reach.{site_of, rises}
-use Rattle.reach.specs.declared.Site as code
+use Rattle.unfold.specs.Sites.{site_of}
+use Rattle.reach.specs.Reach.{rises}
+use Rattle.unfold.specs.declared.Site as code
 use Rattle.renumber.specs.Turn.{turned_at, Inputs, is_yes}
 use Rattle.renumber.specs.declared.Ranks.{Ranks}
 use Rattle.renumber.specs.declared.Turned.{Turned}

@@ -12,7 +12,7 @@ ghost use Rattle.octets.specs.Out.{Writes};
 ghost use Rattle.charstring.specs.Token.{more};
 ghost use Rattle.charstring.specs.Answers.{Within};
 ghost use Rattle.record.specs.Record.{rows_of, two_lengths_lem};
-ghost use Rattle.reach.specs.Reach.{site_of};
+ghost use Rattle.unfold.specs.Sites.{site_of};
 ghost use Rattle.renumber.specs.Turn.{cursor, sized_of, body_of_lem, is_yes};
 ghost use Rattle.renumber.specs.Bodies.{renumbered_of, turned_of};
 ghost use Rattle.renumber.specs.Walks.{Turns};

@@ -2,7 +2,7 @@
 ghost use Rattle.long_bodies.specs.Offsets.{Sited};
 ghost use Rattle.long_bodies.specs.Alone.{sited_prop};
 
-use reach::Site;
+use unfold::Site;
 
 #[derive(Clone, Copy)]
 pub struct LongSite {

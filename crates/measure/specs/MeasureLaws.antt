@@ -7,6 +7,7 @@ use Rattle.subset.specs.Pruned.{Pruned}
 use Rattle.subset.specs.Subset.{subset_by_name}
 use Rattle.order_window.specs.Window.{glyphs_of}
 use Rattle.own_strings.specs.declared.Own.{Own}
+use Rattle.renumber.specs.declared.Ranks.{Ranks}
 use Rattle.parts.specs.Ready.{bodies_for}
 use Rattle.parts.specs.declared.Planned.{Planned}
 use Rattle.outcome.specs.Entry.{a_cut, answer_of}
@@ -22,7 +23,7 @@ use Rattle.subset.specs.declared.Way.{Way}
 
 -- ---- name-keyed
 
-module _ (b : List ℕ) (rows : List Row) (used ws : List ℕ) (r : Planned) (table totals : List ℕ)
+module _ (b : List ℕ) (rows : List Row) (used ws : List ℕ) (r : Planned) (table : List Ranks) (totals : List ℕ)
     (g : NamedPlan b rows used ws r table totals) (name slots : List ℕ) (own : Own)
     (t : NamedStrings (program_of b r.order.f) (glyphs_of b r.order.f ws) slots own (length name)) (e : Encoding) (coding : NamedCodes e slots) (at : NamedPlaces)
     (placed : PlacedNamed (program_of b r.order.f) (coded_for e slots) name (glyphs_of b r.order.f ws) (bodies_for b rows used ws r) at) where

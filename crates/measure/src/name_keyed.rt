@@ -18,7 +18,7 @@ fn measure_planned(c: &NamedSubset<'_>) -> Result<Subsetted, Refusal>
     ensures { result ≡ answer_of (outcome_in c.now 67108864) }
 {
     let how = c.parts.cut.plan.how;
-    let at = places_named(c);
+    let at = places_named(c.kept.font, c.kept.words, &c.parts, c.encoding);
     let end = at.end;
     if octets::LONGEST < end {
         return Err(Refusal::Subset);

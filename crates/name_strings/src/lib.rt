@@ -5,7 +5,6 @@
 pub mod slots;
 
 ghost use Rattle.std.specs.Prelude.{◌≡◌, ◌+◌, ◌≤◌, length};
-ghost use Rattle.octets.specs.Octets.{Octets};
 ghost use Rattle.octets.specs.Out.{Writes};
 ghost use Rattle.index.specs.Items.{items};
 ghost use Rattle.index.specs.Write.{index_bytes};
@@ -30,11 +29,6 @@ pub struct Started {
     pub count: usize,
 }
 
-// Does nothing: its contract says that the bytes of a font are octets, as the type of a parameter tells and that of a field does not.
-pub fn octets_in(font: &[u8])
-    ensures { Octets font.now }
-{}
-
 // The own strings of the slots, counted.
 pub fn slots_own(slots: &GivenSlots<'_, '_>) -> Own
     requires { length slots.now.strings.bytes.now ≤ 67108864 }
@@ -58,7 +52,7 @@ pub fn count_names(kept: &mut Kept<'_>, slots: &[usize], own: Own) -> Own
         bytes: font,
         ix: kept.o.f.strings,
     };
-    octets_in(font);
+    order::octets_in(font);
     let mut all = own;
     for i in 0..kept.o.count {
         let x = kept.word(i) / 65536;
@@ -83,7 +77,7 @@ fn begin_strings(slots: &GivenSlots<'_, '_>, own: Own, out: &mut Out<'_>) -> Sta
         let sid = slots.ids[j];
         let id = slots.ids[8 + j];
         if id == 391 + c {
-            let text = own_strings::own_text(&slots.strings, sid);
+            let text = find::own_text(&slots.strings, sid);
             index::put_item(&mut *out, ix, c, text);
             c += 1;
         }
@@ -103,7 +97,7 @@ pub fn put_strings(kept: &mut Kept<'_>, slots: &[usize], own: Own, out: &mut Out
         bytes: font,
         ix: kept.o.f.strings,
     };
-    octets_in(font);
+    order::octets_in(font);
     let given = GivenSlots {
         strings,
         ids: slots,
@@ -115,7 +109,7 @@ pub fn put_strings(kept: &mut Kept<'_>, slots: &[usize], own: Own, out: &mut Out
         let sid = kept.word(i) / 65536;
         let id = own_strings::given_id(&strings, slots, 8, c, sid);
         if id == 391 + c {
-            let text = own_strings::own_text(&strings, sid);
+            let text = find::own_text(&strings, sid);
             index::put_item(&mut *out, ix, c, text);
             c += 1;
         }
@@ -140,7 +134,7 @@ pub fn put_charset_named(kept: &mut Kept<'_>, slots: &[usize], out: &mut Out<'_>
         bytes: font,
         ix: kept.o.f.strings,
     };
-    octets_in(font);
+    order::octets_in(font);
     out.byte(0);
     let given = GivenSlots {
         strings,

@@ -18,6 +18,7 @@ use Rattle.order_window.specs.Window.{glyphs_of, Gathered}
 use Rattle.record.specs.Record.{rows_of}
 use Rattle.own_strings.specs.declared.Own.{Own}
 use Rattle.name_strings.specs.Names.{NamesApart}
+use Rattle.renumber.specs.declared.Ranks.{Ranks}
 use Rattle.fds.specs.Locals.{fds_in}
 use Rattle.front.specs.Front.{SlotsReady, Measured}
 use Rattle.faithful.specs.FontHeld.{FontHeld}
@@ -47,7 +48,7 @@ abbrev pub named_outcome : Program → Coded → List ℕ → List ℕ → ℕ �
 named_outcome p coded name order room q = written p coded name order order room q
 
 -- the bodies are planned, those of FD 0 alone, and the names of the kept glyphs differ
-pub record NamedPlan (b : List ℕ) (rows : List Row) (used ws : List ℕ) (r : Planned) (table totals : List ℕ) : Type 0 where
+pub record NamedPlan (b : List ℕ) (rows : List Row) (used ws : List ℕ) (r : Planned) (table : List Ranks) (totals : List ℕ) : Type 0 where
   pub keyed : cid_keyed (program_of b r.order.f).top ≡ false
   pub some : 0 < r.order.count
   pub ready : Ready b rows used ws r table

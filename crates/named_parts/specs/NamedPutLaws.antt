@@ -21,7 +21,9 @@ use Rattle.order_window.specs.declared.Order.{Order}
 use Rattle.order_window.specs.declared.window.Kept.{Kept}
 use Rattle.order_window.specs.Window.{glyphs_of}
 use Rattle.faithful.specs.ByName.{coded-within, dict-within}
-use Rattle.private_dicts.specs.Privates.{sizes_of}
+use Rattle.renumber.specs.declared.Ranks.{Ranks}
+use Rattle.private_dicts.specs.Privates.{no_part, parts_of}
+use Rattle.private_dicts.specs.declared.part.Part.{Part}
 use Rattle.own_strings.specs.declared.Own.{Own}
 use Rattle.own_strings.specs.Ready.{SlotsGiven}
 use Rattle.name_strings.specs.Names.{NamesApart, new_names, names_for, NamesReady}
@@ -41,7 +43,7 @@ use Rattle.front.specs.ByNameLaws.{named-front-sum, named-front_len}
 use Rattle.parts.specs.Ready.{bodies_for, Ready}
 use Rattle.parts.specs.declared.Planned.{Planned}
 use Rattle.parts.specs.CodeLaws.{globals_long, glyphs_long, glyphs-asked, glyphs_are}
-use Rattle.parts.specs.PrivateLaws.{all-parts, sizes_held, privates-asked, privates_are}
+use Rattle.parts.specs.PrivateLaws.{all-parts, parts_held, privates-asked, privates_are}
 use Rattle.outcome.specs.Walked.{Walked, charstrings-walked, same-charstrings}
 use Rattle.outcome.specs.Layout.{front_len, named_charset, named_codes, named_charstrings, named_private, named_end, named_top, named-parts, named-length}
 use Rattle.named_parts.specs.Named.{coded_for, named_tables, named_glyphs, NamedPlan, NamedStrings, NamedCodes, PlacedNamed}
@@ -119,13 +121,13 @@ only_part p h fs e =
     subst (λ (l : List ℕ). private_parts p l (mapped h l) ≡ private_part (private_of p 0) (get_or (mapped h l) 0 [])) (sym e)
     (append-nil (private_part (private_of p 0) (h 0)))
 
-only-size : (p : Program) (h : ℕ → List (List ℕ)) (fs sizes : List ℕ) → fs ≡ 0 ∷ [] → take (length fs) sizes ≡ sizes_of p fs (mapped h fs)
-    → get_or sizes 0 0 ≡ length (private_dict (private_of p 0) (get_or (mapped h fs) 0 []))
-unfolding sizes_of mapped
-only-size p h fs sizes e t =
-    let u : take 1 sizes ≡ sizes_of p (0 ∷ []) (mapped h (0 ∷ [])) = subst (λ (l : List ℕ). take (length l) sizes ≡ sizes_of p l (mapped h l)) e t in
+only-size : (p : Program) (h : ℕ → List (List ℕ)) (fs : List ℕ) (parts : List Part) → fs ≡ 0 ∷ [] → take (length fs) parts ≡ parts_of p fs (mapped h fs)
+    → (get_or parts 0 no_part).size ≡ length (private_dict (private_of p 0) (get_or (mapped h fs) 0 []))
+unfolding parts_of mapped
+only-size p h fs parts e t =
+    let u : take 1 parts ≡ parts_of p (0 ∷ []) (mapped h (0 ∷ [])) = subst (λ (l : List ℕ). take (length l) parts ≡ parts_of p l (mapped h l)) e t in
     let o : 0 < 1 = omega arith in
-    sym (get_or-take 1 sizes 0 0 o) ∙ ap (λ (l : List ℕ). get_or l 0 0) u
+    ap (λ (q : Part). q.size) (sym (get_or-take 1 parts 0 no_part o)) ∙ ap (λ (qs : List Part). (get_or qs 0 no_part).size) u
     ∙ ap (λ (l : List ℕ). length (private_dict (private_of p 0) (get_or (mapped h l) 0 []))) (sym e)
 
 bodies-part : (p : Program) (rows : List Row) (way : Way) (fs order : List ℕ) → fs ≡ 0 ∷ []
@@ -133,13 +135,13 @@ bodies-part : (p : Program) (rows : List Row) (way : Way) (fs order : List ℕ) 
 unfolding bodies_by
 bodies-part p rows way fs order e = only_part p _ fs e
 
-bodies-size : (p : Program) (rows : List Row) (way : Way) (fs order sizes : List ℕ) → fs ≡ 0 ∷ []
-    → take (length fs) sizes ≡ sizes_of p fs (bodies_by p rows way fs order).locals
-    → get_or sizes 0 0 ≡ length (private_dict (private_of p 0) (one_local_lem (bodies_by p rows way fs order)))
+bodies-size : (p : Program) (rows : List Row) (way : Way) (fs order : List ℕ) (parts : List Part) → fs ≡ 0 ∷ []
+    → take (length fs) parts ≡ parts_of p fs (bodies_by p rows way fs order).locals
+    → (get_or parts 0 no_part).size ≡ length (private_dict (private_of p 0) (one_local_lem (bodies_by p rows way fs order)))
 unfolding bodies_by
-bodies-size p rows way fs order sizes e t = only-size p _ fs sizes e t
+bodies-size p rows way fs order parts e t = only-size p _ fs parts e t
 
-module _ (b : List ℕ) (rows : List Row) (used ws : List ℕ) (r : Planned) (table totals : List ℕ)
+module _ (b : List ℕ) (rows : List Row) (used ws : List ℕ) (r : Planned) (table : List Ranks) (totals : List ℕ)
     (g : NamedPlan b rows used ws r table totals) where
   abbrev p : Program
   p = program_of b r.order.f
@@ -223,14 +225,13 @@ module _ (b : List ℕ) (rows : List Row) (used ws : List ℕ) (r : Planned) (ta
         (globals-is : globals ≡ index_len_lem (kept_count r.how.way r.how.globals.reached r.how.globals.count) r.globals_total)
         (len_is : len ≡ encoding_len e) (at-is : at₂ ≡ offset_for e (front + globals + (1 + 2 * (k - 1))))
         (many_is : many ≡ index_len_lem r.order.count r.glyphs_total)
-        {oldSizes oldLens sizes lens : List ℕ} {all : ℕ} (s : SizesParts p r.how.way table totals used oldSizes oldLens sizes lens all)
-        (sized : 256 ≤ length oldSizes) (long : 256 ≤ length oldLens) where
+        {old parts : List Part} {all : ℕ} (s : SizesParts p r.how.way table totals used old parts all) where
       pub places_are : (at : NamedPlaces)
           → at ≡ record {
             charset = front + globals;
             encoding = at₂;
             charstrings = front + globals + (1 + 2 * (k - 1)) + len;
-            size = get_or sizes 0 0;
+            size = (get_or parts 0 no_part).size;
             private = front + globals + (1 + 2 * (k - 1)) + len + many;
             end = front + globals + (1 + 2 * (k - 1)) + len + many + all;
           }
@@ -246,7 +247,7 @@ module _ (b : List ℕ) (rows : List Row) (used ws : List ℕ) (r : Planned) (ta
           = omega (arith, x, len_is, encodes-length coded (drop 16 slots) e coding.is) in
           let q : front + globals + (1 + 2 * (k - 1)) + len + many ≡ named_private p coded name order bodies
           = omega (arith, d, many_is, glyphs_long b rows used ws table r g.ready) in
-          let o = all-parts b rows used ws table r g.ready totals g.summed s sized long in
+          let o = all-parts b rows used ws table r g.ready totals g.summed s in
           let z : front + globals + (1 + 2 * (k - 1)) + len + many + all ≡ named_end p coded name order bodies = omega (arith, q, o, ap length private_is) in
           subst (λ (a : NamedPlaces). PlacedNamed p coded name order bodies a) (sym i)
           (record {
@@ -254,8 +255,8 @@ module _ (b : List ℕ) (rows : List Row) (used ws : List ℕ) (r : Planned) (ta
             encoding = at-is ∙ sym (encodes-offset coded (drop 16 slots) e coding.is _) ∙ ap (coded_at coded) x;
             charstrings = d;
             size =
-                bodies-size p rows r.how.way (fds_in used) order sizes g.only
-                (sizes_held b rows used ws table r g.ready totals g.summed s sized long);
+                bodies-size p rows r.how.way (fds_in used) order parts g.only
+                (parts_held b rows used ws table r g.ready totals g.summed s);
             private = q;
             end = z;
           })

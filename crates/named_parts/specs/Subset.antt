@@ -1,5 +1,5 @@
 -- What the subset of a name-keyed font is written from, by what it holds: its parts, its bytes, and its outcome.
-use Rattle.std.specs.Prelude.{ℕ, ◌≡◌, List}
+use Rattle.std.specs.Prelude.{ℕ, ◌≡◌, refl, List}
 use Rattle.std.proofs.Common.{◌∙◌}
 use Rattle.record.specs.Record.{rows_of}
 use Rattle.cff.specs.Font.{Program}
@@ -16,13 +16,19 @@ use Rattle.front.specs.declared.NamedPlaces.{NamedPlaces}
 use Rattle.encoding.specs.declared.Encoding.{Encoding}
 use Rattle.outcome.specs.declared.tables.Parts.{Parts}
 use Rattle.named_parts.specs.declared.named.NamedSubset.{NamedSubset}
-use Rattle.named_parts.specs.Named.{coded_for, named_tables, named_glyphs, named_outcome, PlacedNamed}
+use Rattle.named_parts.specs.Named.{coded_for, named_tables, named_glyphs, named_outcome, NamedReady, PlacedNamed}
 
 -- the outcome of a cut, by the font, the work words and what is prepared
 abbrev pub outcome_by : List ℕ → List ℕ → Parts → Encoding → ℕ → Outcome
 outcome_by b ws parts e room =
     named_outcome (program_of b parts.cut.plan.order.f) (coded_for e parts.slots.now) parts.name.now (glyphs_of b parts.cut.plan.order.f ws) room
     (record { way = parts.cut.plan.how.way; bodies = bodies_for b (rows_of parts.rows.now) parts.used.now ws parts.cut.plan })
+
+-- where its parts stand
+abbrev pub PlacedBy : List ℕ → List ℕ → Parts → Encoding → NamedPlaces → Type 0
+PlacedBy b ws parts e at =
+    PlacedNamed (program_of b parts.cut.plan.order.f) (coded_for e parts.slots.now) parts.name.now (glyphs_of b parts.cut.plan.order.f ws)
+    (bodies_for b (rows_of parts.rows.now) parts.used.now ws parts.cut.plan) at
 
 module _ (c : NamedSubset) where
   abbrev pub program_in : Program
@@ -49,11 +55,15 @@ module _ (c : NamedSubset) where
 
   -- where its parts stand
   abbrev pub PlacedIn : NamedPlaces → Type 0
-  PlacedIn at = PlacedNamed program_in codes_in c.parts.name.now order_in bodies_in at
+  PlacedIn at = PlacedBy c.kept.font.now c.kept.words.now c.parts c.encoding at
 
   -- the outcome of its cut, by the room of the output
   abbrev pub outcome_in : ℕ → Outcome
   outcome_in room = outcome_by c.kept.font.now c.kept.words.now c.parts c.encoding room
+
+-- it is ready for the plan's glyphs, whatever of them the window holds
+pub ready_planned : (c : NamedSubset) → NamedReady c.kept.font.now c.kept.words.now c.parts.cut.plan.order c.parts c.encoding
+ready_planned c = record { plan = c.ready.plan; strings = c.ready.strings; codes = c.ready.codes; walked = record { f = refl; count = refl } }
 
 -- all but what the window holds
 pub record Remains (old new : NamedSubset) : Type 0 where

@@ -6,15 +6,18 @@ pub mod named;
 ghost use Rattle.std.specs.Prelude.{◌+◌, ◌≤◌, length};
 ghost use Rattle.octets.specs.Octets.{Wrote};
 ghost use Rattle.octets.specs.Out.{Writes};
-ghost use Rattle.named_parts.specs.Subset.{tables_in, glyphs_in, subset_in, PlacedIn, Remains};
+ghost use Rattle.named_parts.specs.Named.{NamedReady};
+ghost use Rattle.named_parts.specs.Subset.{tables_in, glyphs_in, subset_in, PlacedBy, PlacedIn, Remains};
 
 use crate::named::NamedSubset;
 use cff::loaded::Loaded;
-use encoding::{encoding_at, encoding_len, put_encoding};
+use encoding::{Encoding, encoding_at, encoding_len, put_encoding};
 use fds::table::FdTable;
 use front::NamedPlaces;
 use octets::out::Out;
+use outcome::tables::Parts;
 use parts::{globals_len, glyphs_len, put_globals};
+use private_dicts::part::NO_PART;
 
 // Charset and encoding.
 fn put_tables(c: &mut NamedSubset<'_>, out: &mut Out<'_>)
@@ -84,16 +87,21 @@ pub fn put_named(c: &mut NamedSubset<'_>, at: NamedPlaces, out: &mut [u8]) -> us
     to.at
 }
 
-// Measures the parts of the subset: where they stand.
-pub fn places_named(c: &NamedSubset<'_>) -> NamedPlaces
-    ensures { PlacedIn c.now result }
+// Measures the parts of the subset: where they stand. (It takes no `NamedSubset`, whose window it does not read. Of the words, which have the bits that
+// the plan goes by, only the contract speaks.)
+pub fn places_named(
+    font: &[u8],
+    words: &[u32],
+    parts: &Parts<'_>,
+    encoding: Encoding,
+) -> NamedPlaces
+    requires { NamedReady font.now words.now parts.now.cut.plan.order parts.now encoding }
+    ensures { PlacedBy font.now words.now parts.now encoding result }
 {
-    let parts = c.parts;
     let own = parts.cut.own;
     let r = parts.cut.plan;
-    let encoding = c.encoding;
     let font = Loaded {
-        bytes: c.kept.font,
+        bytes: font,
         f: r.order.f,
     };
     let fds = FdTable {
@@ -101,17 +109,15 @@ pub fn places_named(c: &NamedSubset<'_>) -> NamedPlaces
         used: parts.used,
         table: parts.table,
     };
-    let mut sizes = [0usize; 256];
-    let mut lens = [0usize; 256];
-    let way = r.how.way;
-    let privates = fds::parts::part_sizes(way, &fds, parts.totals, &mut sizes, &mut lens);
+    let mut measured = [NO_PART; 256];
+    let privates = fds::parts::part_sizes(r.how.way, &fds, parts.totals, &mut measured);
     let v = encoding_at(encoding, 1);
     let front = front::front_len(false, v, &font, parts.name.len(), parts.slots, own);
     let charset = front + globals_len(r);
     let codes = charset + (1 + 2 * (r.order.count - 1));
     let charstrings = codes + encoding_len(encoding);
     let private = charstrings + glyphs_len(r);
-    let size = sizes[0];
+    let size = measured[0].size;
     let end = private + privates;
     NamedPlaces {
         charset,

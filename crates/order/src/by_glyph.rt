@@ -1,26 +1,22 @@
 // The order by glyph: name-keyed fonts, and CIDs that rise with the glyph. All windows together are one pass over the glyphs.
-ghost use Rattle.std.specs.Prelude.{◌≡◌, false, ◌≤◌, ◌<◌, length};
+ghost use Rattle.std.specs.Prelude.{◌≡◌, ◌≤◌, ◌<◌, length};
 ghost use Rattle.bits.specs.Bits.{words_for};
-ghost use Rattle.charset.specs.CharsetPlaces.{ids_of, GoodCharset};
-ghost use Rattle.cff.specs.Reads.{GoodFont};
+ghost use Rattle.charset.specs.Ids.{ids};
 ghost use Rattle.order.specs.Order.{kept_in, rises_from, ids_for};
-ghost use Rattle.order.specs.Walks.{many_in, order_in, Stands, Next};
+ghost use Rattle.order.specs.Walks.{many_in, before_glyph, order_in, Stands, Next};
 
-use crate::Walk;
-use cff::font::Font;
-use charset::Charset;
+use crate::{Ahead, Walk};
+use cff::loaded::Loaded;
+use charset::CharsetCursor;
+use charset::ids::Ids;
 
 // Whether the ids of the glyphs that have their bit rise with the glyph.
-pub fn rises(font: &[u8], c: Charset, n: usize, words: &[u32]) -> bool
-    requires { (GoodCharset font.now c n) × (words_for n ≤ length words.now) }
-    ensures { result ≡ rises_from 0 (ids_for (ids_of font.now c n) (kept_in n words.now)) }
+pub fn rises(glyphs: &Ids<'_>, words: &[u32]) -> bool
+    requires { words_for glyphs.now.n ≤ length words.now }
+    ensures { result ≡ rises_from 0 (ids_for (ids glyphs.now) (kept_in glyphs.now.n words.now)) }
 {
-    let mut u = charset::charset_start(c);
     let mut low = 0;
-    for g in 0..n {
-        let s = charset::next_id(font, u);
-        let id = s.id;
-        u = s.next;
+    for (g, id) in glyphs.iter().enumerate() {
         if bits::has_bit(words, 0, g) {
             if id < low {
                 return false;
@@ -31,28 +27,33 @@ pub fn rises(font: &[u8], c: Charset, n: usize, words: &[u32]) -> bool
     true
 }
 
-// The next glyphs that have their bit, with their ids, into the window, until it is full or no glyph is left.
-pub fn next_glyphs(font: &[u8], f: Font, words: &[u32], window: &mut [u32], w: Walk) -> Walk
-    requires { (GoodFont font.now f) × (words_for (many_in f) ≤ length words.now) × (0 < length window.old)
-        × (Stands font.now f words.now w) × (w.done < length (order_in font.now f words.now)) × (w.search ≡ false) }
-    ensures { Next font.now f words.now w window.new result }
+// The next glyphs that have their bit, with their ids, into the window, until it is full or no glyph is left: from glyph `at` on, behind `done` kept ones.
+pub fn next_glyphs(
+    font: &Loaded<'_>,
+    words: &[u32],
+    window: &mut [u32],
+    done: usize,
+    at: usize,
+    cursor: CharsetCursor,
+) -> Walk
+    requires { (words_for (many_in font.now.f) ≤ length words.now) × (0 < length window.old)
+        × (Stands font.now.bytes.now font.now.f words.now (before_glyph done at cursor)) × (done < length (order_in font.now.bytes.now font.now.f words.now)) }
+    ensures { Next font.now.bytes.now font.now.f words.now (before_glyph done at cursor) window.new result }
 {
-    let charstrings = f.charstrings;
-    let n = charstrings.count;
+    let bytes = font.bytes;
+    let n = font.f.charstrings.count;
     let m = window.len();
-    let done = w.done;
-    let mut u = w.cursor;
+    // By the cursor, not by `Ids::iter`: the pass goes on in the middle, where the last window ended, and the walk holds the cursor where this one ends.
+    let mut u = cursor;
     let mut k = 0;
-    for g in w.at..n {
+    for g in at..n {
         if k == m {
             return Walk {
-                search: false,
-                at: g,
-                cursor: u,
                 done: done + k,
+                next: Ahead::Glyph { at: g, cursor: u },
             };
         }
-        let s = charset::next_id(font, u);
+        let s = charset::next_id(bytes, u);
         let id = s.id;
         u = s.next;
         if bits::has_bit(words, 0, g) {
@@ -61,9 +62,7 @@ pub fn next_glyphs(font: &[u8], f: Font, words: &[u32], window: &mut [u32], w: W
         }
     }
     Walk {
-        search: false,
-        at: n,
-        cursor: u,
         done: done + k,
+        next: Ahead::Glyph { at: n, cursor: u },
     }
 }

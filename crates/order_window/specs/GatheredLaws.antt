@@ -1,5 +1,5 @@
 -- Laws of the kept glyphs and their window: how they are gathered, what a place of the order reads, and that all goes by the bits of the glyphs alone.
-use Rattle.std.specs.Prelude.{ℕ, ◌+◌, ◌-◌, ◌*◌, ◌/◌, ◌%◌, ◌^◌, ◌≤◌, ◌<◌, ◌≡◌, Bool, true, List, eqb, length, take, drop, get_or}
+use Rattle.std.specs.Prelude.{ℕ, ◌+◌, ◌-◌, ◌*◌, ◌/◌, ◌%◌, ◌^◌, ◌≤◌, ◌<◌, ◌≡◌, ◌⊎◌, Bool, true, List, eqb, length, take, drop, get_or}
 use Rattle.std.proofs.Common.{refl, sym, ap, ◌∙◌, subst, inl, inr, arith, get_or-take}
 use Rattle.octets.specs.Octets.{put}
 use Rattle.bits.specs.Bits.{words_for, bit_in, bits_of}
@@ -12,13 +12,15 @@ use Rattle.order.specs.BitLaws.{kept-by_bits}
 use Rattle.subset.specs.KeptListLaws.{those-same}
 use Rattle.subset.specs.EachLaws.{length-mapped}
 use Rattle.kept.specs.Packed.{packed, Apart, slot_words}
+use Rattle.order.specs.declared.Ahead.{Ahead}
+use Rattle.order.specs.declared.Ahead.TheVariants.{Glyph, Cid}
 use Rattle.order.specs.declared.Walk.{Walk}
 use Rattle.order.specs.Order.{kept_in, slots_of}
-use Rattle.order.specs.Walks.{many_in, order_in, start_of, Stands, Next}
-use Rattle.order.specs.WalkLaws.{order-few}
+use Rattle.order.specs.Walks.{many_in, order_in, start_of, seeks, ToCome, Stands, Next}
+use Rattle.order.specs.WalkLaws.{order-few, start-seeks}
 use Rattle.order_window.specs.declared.Held.{Held}
 use Rattle.order_window.specs.declared.Order.{Order}
-use Rattle.order_window.specs.Window.{glyphs_of, Holds, Marked, Steady, Gathered}
+use Rattle.order_window.specs.Window.{glyphs_of, Holds, Marked, Steady, HoldsAll, Gathered}
 use Rattle.order_window.specs.WindowLaws.{moved_holds, none-held, started_none}
 use Rattle.order_window.specs.OrderLaws.{marked-words, none-past, order_many, order_below, order_glyph, order_id}
 
@@ -33,13 +35,17 @@ module _ (b : List ℕ) (f : Font) (ws : List ℕ) (m : Marked b f ws) (count : 
   none_done : first.done ≡ 0
   none_done = started_none first f search is
 
+  -- and from there it can be begun again
+  first_again : Stands b f ws (start_of f (seeks first.next))
+  first_again = subst (λ (t : Bool). Stands b f ws (start_of f t)) (sym (ap (λ (x : Walk). seeks x.next) is ∙ start-seeks f search)) s
+
   first_stands : Stands b f ws first
   first_stands = subst (Stands b f ws) (sym is) s
 
   -- what `next` asks
   pub begin_asks : (window : List ℕ) → 0 < length window
-      → (GoodFont b f) × (words_for (many_in f) ≤ length ws) × (0 < length window) × (Stands b f ws first) × (first.done < length (order_in b f ws))
-  begin_asks window h = (m.good, m.bits, h, first_stands, omega (arith, none_done, order_many b f ws, m.one))
+      → (words_for (many_in f) ≤ length ws) × (0 < length window) × (Stands b f ws first) × (first.done < length (order_in b f ws))
+  begin_asks window h = (m.bits, h, first_stands, omega (arith, none_done, order_many b f ws, m.one))
 
   gathered-by : (window : List ℕ) (h : Held) → 0 < length window → Steady b f ws window h
       → Gathered b ws window (record { f = f; count = count; held = h }) × Steady b f ws window h
@@ -63,7 +69,7 @@ module _ (b : List ℕ) (f : Font) (ws : List ℕ) (m : Marked b f ws) (count : 
       gathered-by window (record { walk = v; from = 0 }) some
       (record {
         holds = subst (λ (k : ℕ). Holds b f ws window (record { walk = v; from = k })) none_done
-            (moved_holds b f ws first window v (subst (λ (x : Walk). Stands b f ws (start_of f x.search)) (sym is) s) n);
+            (moved_holds b f ws first window v (first_again) n);
         front = refl;
         whole = inr (e ∙ many ∙ sym (order_many b f ws));
       })
@@ -74,6 +80,31 @@ module _ (b : List ℕ) (f : Font) (ws : List ℕ) (m : Marked b f ws) (count : 
   begun_none window some =
       gathered-by window (record { walk = first; from = 0 }) some
       (record { holds = none-held b f ws window first search is s; front = refl; whole = inl none_done })
+
+-- where no loop had begun, the window may hold anything by now, unless it held all words: it still does
+pub steady-again : (b ws old new : List ℕ) (o : Order) → Gathered b ws old o → Steady b o.f ws old o.held → 0 < length new → (HoldsAll o → new ≡ old)
+    → Gathered b ws new o × Steady b o.f ws new o.held
+steady-again b ws old new o g s some same = with_steady (again s.whole)
+  where
+    with_steady : Steady b o.f ws new o.held → Gathered b ws new o × Steady b o.f ws new o.held
+    with_steady t =
+        (record { good = g.good; bits = g.bits; some = some; holds = t.holds; many = g.many; one = g.one; few = g.few }, t)
+
+    again : (o.held.walk.done ≡ 0) ⊎ (o.held.walk.done ≡ length (order_in b o.f ws)) → Steady b o.f ws new o.held
+    again (inl z) =
+        let e : o.held.walk.done - o.held.from ≡ 0 = omega (arith, z) in
+        record {
+          holds = record {
+            stands = s.holds.stands;
+            first = s.holds.first;
+            ordered = s.holds.ordered;
+            fits = omega (arith, e);
+            words = ap (λ (k : ℕ). take k new) e ∙ sym (ap (λ (k : ℕ). take k (drop o.held.from (order_in b o.f ws))) e);
+          };
+          front = s.front;
+          whole = s.whole;
+        }
+    again (inr a) = subst (λ (w : List ℕ). Steady b o.f ws w o.held) (sym (same (s.front, a ∙ sym g.many))) s
 
 -- what `mark` leaves
 module _ (b : List ℕ) (f : Font) (old new keep : List ℕ) (is : new ≡ put old 0 (bits_of (keeps keep) (many_in f))) where
@@ -120,28 +151,33 @@ module _ (b : List ℕ) (f : Font) (old new : List ℕ) (same : take (words_for 
   pub same-order : order_in b f old ≡ order_in b f new
   same-order = ap (packed (program_of b f)) same-glyphs
 
+  same_ahead : (done : ℕ) (next : Ahead) → ToCome b f old done next → ToCome b f new done next
+  same_ahead done (Glyph at cursor) g =
+      record {
+        passing = g.passing;
+        rest = ap (drop done) (sym same-order) ∙ g.rest
+            ∙ ap (packed (program_of b f)) (those-same (bit_in old 0) (bit_in new 0) (many_in f - at) at (λ k h. same_bit k (omega arith)));
+      }
+  same_ahead done (Cid at) c =
+      record {
+        within = c.within;
+        apart = subst (λ (x : List ℕ). Apart (packed (program_of b f) x)) same_kept c.apart;
+        rest = ap (drop done) (sym same-order) ∙ c.rest
+            ∙ ap (λ (x : List ℕ). slot_words (slots_of (packed (program_of b f) x)) (65536 - at) at) same_kept;
+      }
+
   same_stands : (w : Walk) → Stands b f old w → Stands b f new w
   same_stands w s =
       record {
         within = omega (arith, s.within, ap length same-order);
-        by-glyph = λ e. let g = s.by-glyph e in record {
-          passing = g.passing;
-          rest = ap (drop w.done) (sym same-order) ∙ g.rest
-              ∙ ap (packed (program_of b f)) (those-same (bit_in old 0) (bit_in new 0) (many_in f - w.at) w.at (λ k h. same_bit k (omega arith)));
-        };
-        by-cid = λ e. let c = s.by-cid e in record {
-          within = c.within;
-          apart = subst (λ (x : List ℕ). Apart (packed (program_of b f) x)) same_kept c.apart;
-          rest = ap (drop w.done) (sym same-order) ∙ c.rest
-              ∙ ap (λ (x : List ℕ). slot_words (slots_of (packed (program_of b f) x)) (65536 - w.at) w.at) same_kept;
-        };
+        ahead = same_ahead w.done w.next s.ahead;
       }
 
   same-holds : (window : List ℕ) (h : Held) → Holds b f old window h → Holds b f new window h
   same-holds window h s =
       record {
         stands = same_stands h.walk s.stands;
-        first = same_stands (start_of f h.walk.search) s.first;
+        first = same_stands (start_of f (seeks h.walk.next)) s.first;
         ordered = s.ordered;
         fits = s.fits;
         words = s.words ∙ ap (λ (l : List ℕ). take (h.walk.done - h.from) (drop h.from l)) same-order;
@@ -160,4 +196,13 @@ same-gathered b old new window o same size s =
       many = s.many ∙ ap length e;
       one = s.one;
       few = s.few;
+    }
+
+pub same-steady : (b old new window : List ℕ) (o : Order) → take (words_for (many_in o.f)) new ≡ take (words_for (many_in o.f)) old
+    → Steady b o.f old window o.held → Steady b o.f new window o.held
+same-steady b old new window o same s =
+    record {
+      holds = same-holds b o.f old new same window o.held s.holds;
+      front = s.front;
+      whole = subst (λ (n : ℕ). (o.held.walk.done ≡ 0) ⊎ (o.held.walk.done ≡ n)) (ap length (same-order b o.f old new same)) s.whole;
     }

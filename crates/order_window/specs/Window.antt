@@ -6,7 +6,7 @@ use Rattle.cff.specs.declared.font.Font.{Font}
 use Rattle.subset.specs.Kept.{written_order}
 use Rattle.subset.specs.Cut.{all_found_lem}
 use Rattle.order.specs.Order.{kept_in}
-use Rattle.order.specs.Walks.{many_in, order_in, start_of, Stands}
+use Rattle.order.specs.Walks.{many_in, order_in, start_of, seeks, Stands}
 use Rattle.order_window.specs.declared.Held.{Held}
 use Rattle.order_window.specs.declared.Order.{Order}
 
@@ -17,7 +17,7 @@ glyphs_of b f ws = written_order (program_of b f) (kept_in (many_in f) ws)
 -- the window begins with the words of the order from place `from` on, up to where the walk stands; it can be filled from the start again
 pub record Holds (b : List ℕ) (f : Font) (ws window : List ℕ) (h : Held) : Type 0 where
   pub stands : Stands b f ws h.walk
-  pub first : Stands b f ws (start_of f h.walk.search)
+  pub first : Stands b f ws (start_of f (seeks h.walk.next))
   pub ordered : h.from ≤ h.walk.done
   pub fits : h.walk.done - h.from ≤ length window
   pub words : take (h.walk.done - h.from) window ≡ take (h.walk.done - h.from) (drop h.from (order_in b f ws))
@@ -35,6 +35,10 @@ pub record Steady (b : List ℕ) (f : Font) (ws window : List ℕ) (h : Held) : 
   pub holds : Holds b f ws window h
   pub front : h.from ≡ 0
   pub whole : (h.walk.done ≡ 0) ⊎ (h.walk.done ≡ length (order_in b f ws))
+
+-- the window holds all kept glyphs
+abbrev pub HoldsAll : Order → Type 0
+HoldsAll o = (o.held.from ≡ 0) × (o.held.walk.done ≡ o.count)
 
 -- the kept glyphs of a font, and the window, which may hold any part of their order
 pub record Gathered (b ws window : List ℕ) (o : Order) : Type 0 where

@@ -8,7 +8,8 @@ use Rattle.cff.specs.declared.font.Font.{Font}
 use Rattle.subset.specs.Kept.{those}
 use Rattle.order.specs.declared.Walk.{Walk}
 use Rattle.order.specs.Order.{kept_in}
-use Rattle.order.specs.Walks.{order_in, start_of, Stands, Next}
+use Rattle.order.specs.Walks.{order_in, start_of, seeks, Stands, Next}
+use Rattle.order.specs.WalkLaws.{start-seeks}
 use Rattle.order_window.specs.declared.Held.{Held}
 use Rattle.order_window.specs.Window.{Holds}
 
@@ -70,7 +71,7 @@ module _ (b : List ℕ) (f : Font) (ws window : List ℕ) (h : Held) (s : Holds 
       ∙ get_or-drop h.from (order_in b f ws) j 0 ∙ ap (λ (x : ℕ). get_or (order_in b f ws) x 0) e
 
 -- a window that was moved
-pub moved_holds : (b : List ℕ) (f : Font) (ws : List ℕ) (w : Walk) (window : List ℕ) (v : Walk) → Stands b f ws (start_of f w.search) → Next b f ws w window v
+pub moved_holds : (b : List ℕ) (f : Font) (ws : List ℕ) (w : Walk) (window : List ℕ) (v : Walk) → Stands b f ws (start_of f (seeks w.next)) → Next b f ws w window v
     → Holds b f ws window (record { walk = v; from = w.done })
 moved_holds b f ws w window v first n =
     record {
@@ -86,7 +87,13 @@ pub none-held : (b : List ℕ) (f : Font) (ws window : List ℕ) (w : Walk) (sea
     → Holds b f ws window (record { walk = w; from = 0 })
 none-held b f ws window w search is s =
     subst (λ (x : Walk). Holds b f ws window (record { walk = x; from = 0 })) (sym is)
-    (record { stands = s; first = s; ordered = omega arith; fits = omega arith; words = refl })
+    (record {
+      stands = s;
+      first = subst (λ (t : Bool). Stands b f ws (start_of f t)) (sym (start-seeks f search)) s;
+      ordered = omega arith;
+      fits = omega arith;
+      words = refl;
+    })
 
 pub started_none : (w : Walk) (f : Font) (search : Bool) → w ≡ start_of f search → w.done ≡ 0
 started_none w f search e = ap (λ (x : Walk). x.done) e

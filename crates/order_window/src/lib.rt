@@ -7,7 +7,7 @@ pub mod window;
 
 ghost use Rattle.std.specs.Prelude.{◌≡◌, true, false, ℕ, ◌*◌, ◌≤◌, ◌<◌, length};
 ghost use Rattle.bits.specs.Bits.{words_for, bit_in};
-ghost use Rattle.cff.specs.Reads.{program_of, GoodFont};
+ghost use Rattle.cff.specs.Loaded.{program};
 ghost use Rattle.octets.specs.Lists.{all_below};
 ghost use Rattle.subset.specs.Kept.{kept_of};
 ghost use Rattle.subset.specs.Cut.{all_found_lem};
@@ -16,6 +16,7 @@ ghost use Rattle.order.specs.Walks.{many_in};
 ghost use Rattle.order_window.specs.Window.{Marked, Steady, Gathered};
 
 use cff::font::Font;
+use cff::loaded::Loaded;
 use order::Walk;
 
 // What a window holds: the words of the order from place `from` on, up to where a walk stands.
@@ -43,15 +44,16 @@ pub fn count(words: &[u32], n: usize) -> usize
 }
 
 // The kept glyphs of a font, by their bits: in a window that has room for them all, or else not in it yet.
-pub fn begin(font: &[u8], f: Font, words: &[u32], window: &mut [u32]) -> Order
-    requires { (Marked font.now f words.now) × (0 < length window.old) }
-    ensures { (Gathered font.now words.now window.new result) × (result.f ≡ f) × (Steady font.now f words.now window.new result.held) }
+pub fn begin(font: &Loaded<'_>, words: &[u32], window: &mut [u32]) -> Order
+    requires { (Marked font.now.bytes.now font.now.f words.now) × (0 < length window.old) }
+    ensures { (Gathered font.now.bytes.now words.now window.new result) × (result.f ≡ font.now.f)
+        × (Steady font.now.bytes.now font.now.f words.now window.new result.held) }
 {
-    let charstrings = f.charstrings;
-    let count = count(words, charstrings.count);
-    let search = order::searches(font, f, words);
-    let first = order::start(f, search);
-    let walk = order::next(font, f, words, window, first);
+    order::octets_in(font.bytes);
+    let f = font.f;
+    let count = count(words, f.charstrings.count);
+    let first = order::start(f, order::searches(font, words));
+    let walk = order::next(font, words, window, first);
     if walk.done == count {
         let held = Held { walk, from: 0 };
         return Order { f, count, held };
@@ -64,13 +66,13 @@ pub fn begin(font: &[u8], f: Font, words: &[u32], window: &mut [u32]) -> Order
 }
 
 // The kept glyphs of a font, by a keep list: their bits come to stand in the first words.
-pub fn gather(font: &[u8], f: Font, keep: &[u16], words: &mut [u32], window: &mut [u32]) -> Order
-    requires { (GoodFont font.now f) × (all_below (many_in f) keep.now ≡ true) × (all_found_lem (program_of font.now f) (kept_of (many_in f) keep.now) ≡ true)
-        × (words_for (many_in f) ≤ length words.old) × (0 < length window.old) }
-    ensures { (Gathered font.now words.new window.new result) × (result.f ≡ f)
-        × (kept_in (many_in f) words.new ≡ kept_of (many_in f) keep.now) × (Steady font.now f words.new window.new result.held) }
+pub fn gather(font: &Loaded<'_>, keep: &[u16], words: &mut [u32], window: &mut [u32]) -> Order
+    requires { (all_below (many_in font.now.f) keep.now ≡ true) × (all_found_lem (program font.now) (kept_of (many_in font.now.f) keep.now) ≡ true)
+        × (words_for (many_in font.now.f) ≤ length words.old) × (0 < length window.old) }
+    ensures { (Gathered font.now.bytes.now words.new window.new result) × (result.f ≡ font.now.f)
+        × (kept_in (many_in font.now.f) words.new ≡ kept_of (many_in font.now.f) keep.now)
+        × (Steady font.now.bytes.now font.now.f words.new window.new result.held) }
 {
-    let charstrings = f.charstrings;
-    order::mark(keep, &mut *words, charstrings.count);
-    begin(font, f, words, window)
+    order::mark(keep, &mut *words, font.f.charstrings.count);
+    begin(font, words, window)
 }

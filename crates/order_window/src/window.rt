@@ -4,6 +4,7 @@ ghost use Rattle.order_window.specs.Window.{Gathered};
 ghost use Rattle.order_window.specs.Alone.{gathered_prop};
 
 use crate::{Held, Order};
+use cff::loaded::Loaded;
 
 // A word of a window.
 #[inline(always)]
@@ -65,11 +66,12 @@ impl Kept<'_> {
         }
     }
 
-    // The window emptied, before the first word.
+    // The window emptied, before the first word, which it does not hold.
     fn back(&mut self)
+        requires { 0 < self.old.o.held.from }
         ensures { (self.new.o.held.from ≡ 0) × Stays self.old self.new }
     {
-        let walk = order::start(self.o.f, self.o.held.walk.search);
+        let walk = order::again(self.o.f, self.o.held.walk);
         self.o.held = Held { walk, from: 0 };
     }
 
@@ -80,8 +82,12 @@ impl Kept<'_> {
     {
         let walk = self.o.held.walk;
         self.o.held.from = walk.done;
+        let font = Loaded {
+            bytes: self.font,
+            f: self.o.f,
+        };
         let window = &mut *self.window;
-        let next = order::next(self.font, self.o.f, self.words, window, walk);
+        let next = order::next(&font, self.words, window, walk);
         self.o.held.walk = next;
     }
 }

@@ -4,7 +4,7 @@ use Rattle.std.proofs.Common.{sym, ap, ◌∙◌, arith, take-take}
 use Rattle.octets.specs.Lists.{all_below}
 use Rattle.index.specs.IndexLaws.{items-length}
 use Rattle.unfold.specs.Unfold.{Row}
-use Rattle.cff.specs.Reads.{GoodFont, program_of}
+use Rattle.cff.specs.Reads.{program_of}
 use Rattle.cff.specs.declared.font.Font.{Font}
 use Rattle.subset.specs.Kept.{kept_of, written_order}
 use Rattle.small.specs.Small.{small_size}
@@ -13,9 +13,9 @@ use Rattle.order.specs.Order.{kept_in}
 use Rattle.order.specs.Walks.{many_in}
 use Rattle.order_window.specs.Window.{glyphs_of}
 use Rattle.subset.specs.Cut.{all_found_lem}
+use Rattle.renumber.specs.declared.Ranks.{Ranks}
 use Rattle.bodies.specs.Ways.{kept_count}
 use Rattle.fds.specs.Parts.{PartsFit}
-use Rattle.faithful.specs.FontHeld.{FontHeld}
 use Rattle.parts.specs.Ready.{Ready, Summed}
 use Rattle.parts.specs.declared.Planned.{Planned}
 use Rattle.parts.specs.CodeLaws.{globals-few}
@@ -36,13 +36,12 @@ part_stays n k m old new h e = sym (part-take n k m new h) ∙ ap (λ (l : List 
 -- ---- the order
 
 -- what gathering the kept glyphs asks
-pub gather_asked : (b : List ℕ) (f : Font) → FontHeld b f → (keep ws window : List ℕ) → all_below (length (program_of b f).charstrings) keep ≡ true
+pub gather_asked : (b : List ℕ) (f : Font) (keep ws window : List ℕ) → all_below (length (program_of b f).charstrings) keep ≡ true
     → all_found_lem (program_of b f) (kept_of (length (program_of b f).charstrings) keep) ≡ true → small_size (program_of b f) ≤ length ws → 0 < length window
-    → GoodFont b f × (all_below (many_in f) keep ≡ true) × (all_found_lem (program_of b f) (kept_of (many_in f) keep) ≡ true) × (words_for (many_in f) ≤ length ws) × (0 < length window)
-gather_asked b f held keep ws window below found words some =
+    → (all_below (many_in f) keep ≡ true) × (all_found_lem (program_of b f) (kept_of (many_in f) keep) ≡ true) × (words_for (many_in f) ≤ length ws) × (0 < length window)
+gather_asked b f keep ws window below found words some =
     let many : length (program_of b f).charstrings ≡ many_in f = items-length b f.charstrings in
     let wide : words_for (length (program_of b f).charstrings) ≡ words_for (many_in f) = ap words_for many in (
-      held.font,
       ap (λ (m : ℕ). all_below m keep) (sym many) ∙ below,
       ap (λ (m : ℕ). all_found_lem (program_of b f) (kept_of m keep)) (sym many) ∙ found,
       omega (arith, words, wide),
@@ -56,7 +55,7 @@ gathered-order b f keep ws e = ap (written_order (program_of b f)) (e ∙ ap (λ
 
 -- ---- measures
 
-module _ (b : List ℕ) (rows : List Row) (used ws table : List ℕ) (r : Planned) (ready : Ready b rows used ws r table) where
+module _ (b : List ℕ) (rows : List Row) (used ws : List ℕ) (table : List Ranks) (r : Planned) (ready : Ready b rows used ws r table) where
   -- the INDEXes of the globals and of the charstrings can be measured
   pub globals-measured : (kept_count r.how.way r.how.globals.reached r.how.globals.count ≤ 65535) × (r.globals_total ≤ 281474976710656)
   globals-measured = (globals-few b rows used ws table r ready, omega (arith, ready.globals_few))

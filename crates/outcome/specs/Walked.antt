@@ -10,6 +10,7 @@ use Rattle.order_window.specs.declared.window.Kept.{Kept}
 use Rattle.order_window.specs.Stays.{Stays}
 use Rattle.order_window.specs.Window.{glyphs_of, Gathered}
 use Rattle.renumber.specs.Ranks.{Ranked}
+use Rattle.renumber.specs.declared.Ranks.{Ranks}
 use Rattle.bodies.specs.Ways.{ranks_in, Room}
 use Rattle.bodies.specs.declared.Manner.{Manner}
 use Rattle.glyph_bodies.specs.Charstrings.{CharstringsIn, charstrings_of, charstrings_from}
@@ -21,7 +22,7 @@ pub record Walked (o planned : Order) : Type 0 where
   pub count : o.count ≡ planned.count
 
 -- what the charstrings ask, and what they are, of a font and so many glyphs
-module _ (b : List ℕ) (rows : List Row) (ws table : List ℕ) (o : Order) (r : Planned) (walked : Walked o r.order) where
+module _ (b : List ℕ) (rows : List Row) (ws : List ℕ) (table : List Ranks) (o : Order) (r : Planned) (walked : Walked o r.order) where
   abbrev with_font : Font → Option (List (List ℕ))
   with_font f = charstrings_of r.how.way rows (program_of b f).fds ws table r.how.globals (items_of b f.charstrings) (glyphs_of b f ws)
 
@@ -57,7 +58,7 @@ module _ (b : List ℕ) (rows : List Row) (ws table : List ℕ) (o : Order) (r :
 pub walked-stays : (k l : Kept) → Stays k l → (planned : Order) → Walked k.o planned → Walked l.o planned
 walked-stays k l s planned w = record { f = s.f ∙ w.f; count = s.count ∙ w.count }
 
-module _ (k l : Kept) (s : Stays k l) (how : Manner) (rows : List Row) (table : List ℕ) where
+module _ (k l : Kept) (s : Stays k l) (how : Manner) (rows : List Row) (table : List Ranks) where
   pub charstrings-stay : (total at room : ℕ)
       → CharstringsIn k.font.now k.words.now table l.o how rows × Room (charstrings_from how l.o rows k.words.now table k.font.now) total at room
       → CharstringsIn l.font.now l.words.now table l.o how rows × Room (charstrings_from how l.o rows l.words.now table l.font.now) total at room

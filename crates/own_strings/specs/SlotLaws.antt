@@ -1,15 +1,18 @@
 -- Laws of slots that are used one after the other: what the use of one adds to the own strings, that its new id is the next one exactly
 -- where it adds a string, and that the code gives it that id.
-use Rattle.std.specs.Prelude.{ℕ, suc, ◌+◌, ◌<◌, ◌≤◌, ◌≡◌, Bool, drop, get_or, None, Option, Some}
+use Rattle.std.specs.Prelude.{ℕ, ◌+◌, ◌<◌, ◌≤◌, ◌≡◌, Bool, cond, drop, get_or, is_some, None, Option, Some}
 use Rattle.std.proofs.Math.Path.{refl, ap}
 use Rattle.std.proofs.Common.{sym, ◌∙◌, add-zero, add-one, arith}
 use Rattle.std.proofs.Math.Bool.{true, false}
 use mathlib.Core.List.{List, [], ◌∷◌, ◌++◌, append_assoc}
-use borrow.Author.Tests.{ltb-true, ltb-false, eqb-true, eqb-false, lt-ltb, le-ltb, eq-eqb, ne_eqb}
+use borrow.Author.Tests.{ltb-true, ltb-false, eqb-true, eqb-false, le-ltb, eq-eqb, ne_eqb}
 use Rattle.std.proofs.Math.Dec.{ltb, eqb}
 use Rattle.std.proofs.Math.ListN.{length, take, length-append}
 use Rattle.std.proofs.Math.Seq.{split_at, take-suc}
 use Rattle.std.proofs.lemmas.List.{get_or_at}
+use Rattle.std.specs.List.{position_from}
+use Rattle.std.proofs.lemmas.Iterator.Adapters.{position_from-zero}
+use Rattle.std.proofs.lemmas.List.Quantifiers.{position-Some}
 use Rattle.octets.specs.Pick.{pick, pick_ind}
 use Rattle.prune.specs.StepLaws.{zero_one}
 use Rattle.index.specs.Write.{total}
@@ -20,7 +23,7 @@ use Rattle.strings.specs.Strings.{string_text, sid_of}
 use Rattle.strings.proofs.StringsLaws.{string_standard, sid_standard, sid_below}
 use Rattle.subset.specs.Texts.{has_text, with_text, own_strings_lem, place_in, new_id}
 use Rattle.own_strings.specs.declared.Own.{Own}
-use Rattle.own_strings.specs.Slots.{slot_texts, slot_id, own_of, slot_has, slot_with_lem, given_or, given_id, counted}
+use Rattle.own_strings.specs.Slots.{slot_texts, slot_id, own_of, slot_has, slot_with, given_or, given_id, counted}
 use Rattle.own_strings.specs.OwnLaws.{own_grown, own-append, place-left, place-below, place-new, new-standard, new_other}
 
 -- ---- slots one after the other
@@ -225,11 +228,6 @@ has-slot strings t x e = by (eqb x 65536) refl
     by true f = let g : pick true false (same_text_lem (string_text strings x) t) ≡ true = rw f at e in absurd (zero_one cc)
     by false f = let g : pick false false (same_text_lem (string_text strings x) t) ≡ true = rw f at e in (eqb-false x 65536 f, same_true (string_text strings x) t g)
 
--- the first slot that has it
-pub record Found (strings : List (List ℕ)) (t : List ℕ) (xs : List ℕ) : Type 0 where
-  pub within : slot_with_lem strings t xs < length xs
-  pub has : slot_has strings t (get_or xs (slot_with_lem strings t xs) 0) ≡ true
-
 module _ (strings : List (List ℕ)) (t : List ℕ) where
   -- a slot among texts
   has_first : (x : ℕ) (xs : List ℕ) → has_text t (slot_texts strings (x ∷ xs)) ≡ pick (slot_has strings t x) true (has_text t (slot_texts strings xs))
@@ -239,40 +237,18 @@ module _ (strings : List (List ℕ)) (t : List ℕ) where
       (λ s. rw s)
       (λ s. rw s)
 
-  with-here : (x : ℕ) (xs : List ℕ) → slot_has strings t x ≡ true → slot_with_lem strings t (x ∷ xs) ≡ 0
-  unfolding slot_with_lem
-  with-here x xs e = rw e
+  first-or : (b h : Bool) (k : ℕ) (r : Option ℕ) → h ≡ is_some r → pick b true h ≡ is_some (cond b (Some k) r)
+  first-or true h k r e = refl
+  first-or false h k r e = e
 
-  with-later : (x : ℕ) (xs : List ℕ) → slot_has strings t x ≡ false → slot_with_lem strings t (x ∷ xs) ≡ suc (slot_with_lem strings t xs)
-  unfolding slot_with_lem
-  with-later x xs e = rw (e, add-one)
-
-  found-by : (x : ℕ) (xs : List ℕ) → (has_text t (slot_texts strings xs) ≡ true → Found strings t xs) → has_text t (slot_texts strings (x ∷ xs)) ≡ true
-      → (b : Bool) → slot_has strings t x ≡ b → Found strings t (x ∷ xs)
-  found-by x xs more h true e = let w = with-here x xs e in record { within = rw w (omega arith); has = rw w e }
-  found-by x xs more h false e =
-      let w = with-later x xs e in
-      let g : pick false true (has_text t (slot_texts strings xs)) ≡ true = rw e at (sym (has_first x xs) ∙ h) in
-      let f = more g in
-      record { within = rw w (let b = f.within in omega arith); has = rw w f.has }
-
-  pub with-found : (xs : List ℕ) → has_text t (slot_texts strings xs) ≡ true → Found strings t xs
+  from : (k : ℕ) (xs : List ℕ) → has_text t (slot_texts strings xs) ≡ is_some (position_from (slot_has strings t) k xs)
   unfolding slot_texts has_text
-  with-found [] h = absurd (zero_one cc)
-  with-found (x ∷ xs) h = found-by x xs (with-found xs) h (slot_has strings t x) refl
+  from k [] = refl
+  from k (x ∷ xs) = has_first x xs ∙ first-or (slot_has strings t x) _ k _ (from (k + 1) xs)
 
-  none-by : (x : ℕ) (xs : List ℕ) → (has_text t (slot_texts strings xs) ≡ false → slot_with_lem strings t xs ≡ length xs) → has_text t (slot_texts strings (x ∷ xs)) ≡ false
-      → (b : Bool) → slot_has strings t x ≡ b → slot_with_lem strings t (x ∷ xs) ≡ length (x ∷ xs)
-  none-by x xs more h true e =
-      let g : pick true true (has_text t (slot_texts strings xs)) ≡ false = rw e at (sym (has_first x xs) ∙ h) in absurd (zero_one cc)
-  none-by x xs more h false e =
-      let g : pick false true (has_text t (slot_texts strings xs)) ≡ false = rw e at (sym (has_first x xs) ∙ h) in
-      with-later x xs e ∙ ap suc (more g)
-
-  pub with_none : (xs : List ℕ) → has_text t (slot_texts strings xs) ≡ false → slot_with_lem strings t xs ≡ length xs
-  unfolding slot_with_lem
-  with_none [] h = refl
-  with_none (x ∷ xs) h = none-by x xs (with_none xs) h (slot_has strings t x) refl
+  -- a text is among those of the slots where a slot has it
+  pub with-text : (xs : List ℕ) → has_text t (slot_texts strings xs) ≡ is_some (slot_with strings t xs)
+  with-text xs = from 0 xs ∙ ap is_some (sym (position_from-zero (slot_has strings t) xs))
 
 -- after slots whose ids are known, own being the own strings so far
 module _ (strings own : List (List ℕ)) (slots ids : List ℕ) (x : ℕ) (ts all : List (List ℕ)) (grows : all ≡ own_strings_lem (used strings own x) ts)
@@ -284,7 +260,7 @@ module _ (strings own : List (List ℕ)) (slots ids : List ℕ) (x : ℕ) (ts al
   abbrev given : ℕ
   given = given_id strings slots ids (length own) x
 
-  given_other : (x ≡ 65536 → ⊥) → sid_of text ≡ None → given ≡ given_or ids (length slots) (length own) (slot_with_lem strings text slots)
+  given_other : (x ≡ 65536 → ⊥) → sid_of text ≡ None → given ≡ given_or ids (length own) (slot_with strings text slots)
   unfolding given_id
   given_other n o = rw (ne_eqb x 65536 n, le-ltb x 391 (other_high strings own x o), o)
 
@@ -301,20 +277,26 @@ module _ (strings own : List (List ℕ)) (slots ids : List ℕ) (x : ℕ) (ts al
   given-empty e = rw (eq-eqb x 65536 e)
 
   given_there : (x ≡ 65536 → ⊥) → sid_of text ≡ None → has_text text own ≡ true → given ≡ slot_id all strings x
-  given_there n o h =
-      let f = with-found strings text slots (sym (among o) ∙ h) in
-      let j = slot_with_lem strings text slots in
-      let g = has-slot strings text (get_or slots j 0) f.has in
-      let p : given_or ids (length slots) (length own) j ≡ get_or ids j 0 = rw (lt-ltb j (length slots) f.within) in
-      given_other n o ∙ p ∙ known j f.within ∙ slot-full strings all (get_or slots j 0) g.0 ∙ ap (new_id all) g.1 ∙ sym (slot-full strings all x n)
+  given_there n o h = by (slot_with strings text slots) refl
+    where
+      by : (r : Option ℕ) → slot_with strings text slots ≡ r → given ≡ slot_id all strings x
+      by None e =
+          let z : false ≡ true = sym (ap is_some e) ∙ sym (with-text strings text slots) ∙ sym (among o) ∙ h in absurd (zero_one cc)
+      by (Some j) e =
+          let f = position-Some (slot_has strings text) slots j 0 e in
+          let g = has-slot strings text (get_or slots j 0) f.1 in
+          given_other n o ∙ ap (given_or ids (length own)) e ∙ known j f.0 ∙ slot-full strings all (get_or slots j 0) g.0 ∙ ap (new_id all) g.1 ∙ sym (slot-full strings all x n)
 
   given-new : (x ≡ 65536 → ⊥) → sid_of text ≡ None → has_text text own ≡ false → given ≡ slot_id all strings x
-  given-new n o h =
-      let f = with_none strings text slots (sym (among o) ∙ h) in
-      let p : given_or ids (length slots) (length own) (slot_with_lem strings text slots) ≡ 391 + length own = rw (le-ltb (slot_with_lem strings text slots) (length slots) (omega arith)) in
-      let q : all ≡ own_strings_lem (own ++ (text ∷ [])) ts = rw (used-new strings own x n o h) at grows in
-      let i : slot_id all strings x ≡ 391 + length own = rw q (new-next strings own ts x n o h).id in
-      given_other n o ∙ p ∙ sym i
+  given-new n o h = by (slot_with strings text slots) refl
+    where
+      by : (r : Option ℕ) → slot_with strings text slots ≡ r → given ≡ slot_id all strings x
+      by None e =
+          let q : all ≡ own_strings_lem (own ++ (text ∷ [])) ts = rw (used-new strings own x n o h) at grows in
+          let i : slot_id all strings x ≡ 391 + length own = rw q (new-next strings own ts x n o h).id in
+          given_other n o ∙ ap (given_or ids (length own)) e ∙ sym i
+      by (Some j) e =
+          let z : true ≡ false = sym (ap is_some e) ∙ sym (with-text strings text slots) ∙ sym (among o) ∙ h in absurd (zero_one cc)
 
   given_by : Using strings own x → given ≡ slot_id all strings x
   given_by (empty e) = given-empty e ∙ sym (slot-empty strings all x e)

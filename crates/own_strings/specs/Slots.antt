@@ -1,6 +1,6 @@
 -- The string ids that the top DICT of a subset uses (document 01, 'Layout'): eight slots, registry and ordering of ROS and then the six
 -- string entries; 65536, which is no string id, stands where there is none. And what the code gives and counts as it passes over string ids.
-use Rattle.std.specs.Prelude.{ℕ, ◌+◌, ◌/◌, ◌<◌, ◌≡◌, Bool, false, List, [], ◌∷◌, ◌++◌, ltb, eqb, length, take, get_or, None, Option, Some}
+use Rattle.std.specs.Prelude.{ℕ, ◌+◌, ◌/◌, ◌<◌, ◌≡◌, Bool, false, List, [], ◌∷◌, ◌++◌, ltb, eqb, length, take, get_or, position, None, Option, Some}
 use Rattle.octets.specs.Pick.{pick}
 use Rattle.dict.specs.Op.{copied_top_strings}
 use Rattle.dict.specs.Dict.{Entry}
@@ -82,26 +82,26 @@ all_own strings slots ws = own_strings_lem (slots_own strings slots) (word_names
 abbrev pub slot_has : List (List ℕ) → List ℕ → ℕ → Bool
 slot_has strings t x = pick (eqb x 65536) false (same_text_lem (string_text strings x) t)
 
--- the first of the slots that has a text, or their count
-unfoldable pub slot_with_lem : List (List ℕ) → List ℕ → List ℕ → ℕ
-slot_with_lem strings t [] = 0
-slot_with_lem strings t (x ∷ xs) = pick (slot_has strings t x) 0 (slot_with_lem strings t xs + 1)
+-- the first of the slots that has a text, if one has
+abbrev pub slot_with : List (List ℕ) → List ℕ → List ℕ → Option ℕ
+slot_with strings t slots = position (slot_has strings t) slots
 
 -- the id of a text: its standard one, or else another
 abbrev pub standard_or : Option ℕ → ℕ → ℕ
 standard_or (Some k) id = k
 standard_or None id = id
 
--- the id of a slot that has the text, of the slots that these ids are for, or the next id
-abbrev pub given_or : List ℕ → ℕ → ℕ → ℕ → ℕ
-given_or ids n count j = pick (ltb j n) (get_or ids j 0) (391 + count)
+-- the id of the slot that has the text, or the next id
+abbrev pub given_or : List ℕ → ℕ → Option ℕ → ℕ
+given_or ids count (Some j) = get_or ids j 0
+given_or ids count None = 391 + count
 
 -- the new id of a slot, after these slots with their ids and count own strings
 unfoldable pub given_id : List (List ℕ) → List ℕ → List ℕ → ℕ → ℕ → ℕ
 given_id strings slots ids count x =
     pick (eqb x 65536) 0
     (pick (ltb x 391) x
-    (standard_or (sid_of (string_text strings x)) (given_or ids (length slots) count (slot_with_lem strings (string_text strings x) slots))))
+    (standard_or (sid_of (string_text strings x)) (given_or ids count (slot_with strings (string_text strings x) slots))))
 
 -- the own strings counted, once a slot with a new id was passed: one more where the id is the next
 unfoldable pub counted : List (List ℕ) → Own → ℕ → ℕ → Own

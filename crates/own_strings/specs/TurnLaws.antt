@@ -1,10 +1,10 @@
 -- Laws for one string id at a time: the text of an id, the slot that has a text, the id that a slot is given and what is counted.
 use Rattle.std.specs.Prelude.{ℕ, zero, suc, ◌+◌, ◌-◌, ◌<◌, ◌≤◌, ◌≡◌, refl, Bool, true, false, ltb, take, get_or, set, None, Option, Some}
 use Rattle.std.proofs.Math.Path.{sym, ap}
-use Rattle.std.proofs.Common.{◌∙◌, add-one, arith, drop-cons, get_or-take, get_or-drop, length-take-le}
+use Rattle.std.proofs.Common.{◌∙◌, arith, get_or-drop, length-take-le}
 use mathlib.Core.List.{List, [], ◌∷◌}
 use borrow.Author.Tests.{ltb-true, ltb-false, lt-ltb, le-ltb, eq-eqb, ne_eqb}
-use Rattle.std.proofs.Math.ListN.{length, drop, drop_of_length-le}
+use Rattle.std.proofs.Math.ListN.{length, drop}
 use Rattle.octets.specs.Octets.{put}
 use Rattle.octets.specs.PutLaws.{put-put, put_next, put-length}
 use Rattle.index.specs.Index.{items_of}
@@ -19,7 +19,7 @@ use Rattle.strings.specs.Strings.{string_text, sid_of}
 use Rattle.strings.proofs.StringsLaws.{string_own, string_none}
 use Rattle.subset.specs.Texts.{slot_of}
 use Rattle.own_strings.specs.declared.Own.{Own}
-use Rattle.own_strings.specs.Slots.{ros_slots, first_slots, entry_slots, slots_of, slot_has, slot_with_lem, given_or, given_id, counted}
+use Rattle.own_strings.specs.Slots.{ros_slots, first_slots, entry_slots, slots_of, slot_with, given_or, given_id, counted}
 use Rattle.own_strings.specs.Ready.{HasStrings}
 
 -- ---- the slots of a top DICT
@@ -82,9 +82,6 @@ slots-whole cid es old mid e =
 
 -- ---- texts
 
-pub text-item : (strings : List (List ℕ)) (sid : ℕ) (item : List ℕ) → 391 ≤ sid → item ≡ get_or strings (sid - 391) [] → item ≡ string_text strings sid
-text-item strings sid item h e = e ∙ sym (string_own strings sid h)
-
 pub text-none : (b : List ℕ) (ix : Index) (sid : ℕ) → 391 ≤ sid → ix.count ≤ sid - 391 → [] ≡ string_text (items_of b ix) sid
 text-none b ix sid l h = sym (string_none (items_of b ix) sid (omega (arith, items-length b ix)))
 
@@ -99,41 +96,6 @@ text-short b ix g sid h = short (ltb (sid - 391) ix.count) refl
     short false e =
         let k : ix.count ≤ sid - 391 = ltb-false (sid - 391) ix.count e in
         omega (arith, ap length (text-none b ix sid h k))
-
--- ---- the slot that has a text
-
-module _ (strings : List (List ℕ)) (t slots : List ℕ) (n j : ℕ) (all : n ≤ length slots)
-    (inv : slot_with_lem strings t (take n slots) ≡ j + slot_with_lem strings t (drop j (take n slots))) where
-  many : length (take n slots) ≡ n
-  many = length-take-le n slots all
-
-  split : j < n → drop j (take n slots) ≡ get_or slots j 0 ∷ drop (j + 1) (take n slots)
-  split h =
-      let k : j < length (take n slots) = omega (arith, many) in
-      drop-cons (take n slots) j 0 k
-      ∙ ap (λ (x : ℕ). x ∷ drop (suc j) (take n slots)) (get_or-take n slots j 0 h)
-      ∙ ap (λ (m : ℕ). get_or slots j 0 ∷ drop m (take n slots)) (sym (add-one j))
-
-  pub with-here : j < n → slot_has strings t (get_or slots j 0) ≡ true → j ≡ slot_with_lem strings t (take n slots)
-  unfolding slot_with_lem
-  with-here h e =
-      let f : slot_with_lem strings t (drop j (take n slots)) ≡ 0 = ap (slot_with_lem strings t) (split h) ∙ rw e in
-      omega (arith, inv, f)
-
-  pub with-on : j < n → slot_has strings t (get_or slots j 0) ≡ false
-      → slot_with_lem strings t (take n slots) ≡ j + 1 + slot_with_lem strings t (drop (j + 1) (take n slots))
-  unfolding slot_with_lem
-  with-on h e =
-      let f : slot_with_lem strings t (drop j (take n slots)) ≡ slot_with_lem strings t (drop (j + 1) (take n slots)) + 1 = ap (slot_with_lem strings t) (split h) ∙ rw e in
-      omega (arith, inv, f)
-
-  pub with_end : j ≤ n → n ≤ j → n ≡ slot_with_lem strings t (take n slots)
-  unfolding slot_with_lem
-  with_end l h =
-      let k : length (take n slots) ≤ j = omega (arith, many) in
-      let d : drop j (take n slots) ≡ [] = drop_of_length-le (take n slots) k in
-      let f : slot_with_lem strings t (drop j (take n slots)) ≡ 0 = ap (slot_with_lem strings t) d in
-      omega (arith, inv, f)
 
 -- ---- the id that a slot is given, after n slots
 
@@ -156,28 +118,18 @@ module _ (strings : List (List ℕ)) (slots : List ℕ) (n count x : ℕ) where
         let g : sid_of (string_text strings x) ≡ Some k = ap sid_of (sym e) ∙ sym s ∙ f in
         rw (ne_eqb x 65536 m, le-ltb x 391 high, g)
 
-    other : sid ≡ None → given_or (drop 8 slots) (length (take n slots)) count (slot_with_lem strings text (take n slots)) ≡ given
+    other : sid ≡ None → (r : Option ℕ) → r ≡ slot_with strings text (take n slots) → given_or (drop 8 slots) count r ≡ given
     unfolding given_id
-    other f =
+    other f r w =
         let g : sid_of (string_text strings x) ≡ None = ap sid_of (sym e) ∙ sym s ∙ f in
-        rw (ne_eqb x 65536 m, le-ltb x 391 high, g, e)
+        ap (given_or (drop 8 slots) count) w ∙ rw (ne_eqb x 65536 m, le-ltb x 391 high, g, e)
 
-    module _ (f : sid ≡ None) (room : n ≤ length slots) (j : ℕ) (w : j ≡ slot_with_lem strings text (take n slots)) where
-      pub given-slot : j < n → get_or slots (8 + j) 0 ≡ given
-      given-slot h =
-          let k : length (take n slots) ≡ n = length-take-le n slots room in
-          let i : slot_with_lem strings text (take n slots) < length (take n slots) = omega (arith, w, k) in
-          let p : get_or (drop 8 slots) (slot_with_lem strings text (take n slots)) 0 ≡ given_or (drop 8 slots) (length (take n slots)) count (slot_with_lem strings text (take n slots))
-          = rw (lt-ltb (slot_with_lem strings text (take n slots)) (length (take n slots)) i) in
-          sym (get_or-drop 8 slots j 0) ∙ ap (λ (k : ℕ). get_or (drop 8 slots) k 0) w ∙ p ∙ other f
+    module _ (f : sid ≡ None) (r : Option ℕ) (w : r ≡ slot_with strings text (take n slots)) where
+      pub given-slot : (j : ℕ) → r ≡ Some j → get_or slots (8 + j) 0 ≡ given
+      given-slot j q = sym (get_or-drop 8 slots j 0) ∙ sym (ap (given_or (drop 8 slots) count) q) ∙ other f r w
 
-      pub given-next : n ≤ j → 391 + count ≡ given
-      given-next h =
-          let k : length (take n slots) ≡ n = length-take-le n slots room in
-          let i : length (take n slots) ≤ slot_with_lem strings text (take n slots) = omega (arith, w, k) in
-          let p : 391 + count ≡ given_or (drop 8 slots) (length (take n slots)) count (slot_with_lem strings text (take n slots))
-          = rw (le-ltb (slot_with_lem strings text (take n slots)) (length (take n slots)) i) in
-          p ∙ other f
+      pub given-next : r ≡ None → 391 + count ≡ given
+      given-next q = sym (ap (given_or (drop 8 slots) count) q) ∙ other f r w
 
 -- ---- what is counted
 

@@ -8,8 +8,8 @@ ghost use Rattle.index.specs.Items.{items};
 ghost use Rattle.dict.specs.Lookup.{id_in};
 ghost use Rattle.dict.specs.Places.{entries_of};
 ghost use Rattle.dict.specs.Held.{entries};
-ghost use Rattle.strings.specs.Strings.{string_text, sid_of};
-ghost use Rattle.own_strings.specs.Slots.{first_slots, slots_of, slot_ids, own_of, slots_own, slot_has, slot_with_lem, given_id, counted};
+ghost use Rattle.strings.specs.Strings.{sid_of};
+ghost use Rattle.own_strings.specs.Slots.{first_slots, slots_of, slot_ids, own_of, slots_own, slot_has, slot_with, given_id, counted};
 ghost use Rattle.subset.specs.Texts.{slot_of};
 
 use dict::placed::Dict;
@@ -68,18 +68,6 @@ pub fn put_slots(d: &[u8], cid: bool, slots: &mut [usize])
     }
 }
 
-// The text of a string id that is not standard: a part of the font.
-pub fn own_text<'a>(strings: &Items<'a>, sid: usize) -> &'a [u8]
-    requires { 391 ≤ sid }
-    ensures { result.now ≡ string_text (items strings.now) sid }
-{
-    let k = sid - 391;
-    if k < strings.ix.count {
-        return index::item(strings.bytes, strings.ix, k);
-    }
-    &strings.bytes[0..0]
-}
-
 // Whether a slot has a text, which is not standard.
 fn slot_has(strings: &Items<'_>, text: &[u8], x: usize) -> bool
     requires { sid_of text.now ≡ None }
@@ -91,15 +79,12 @@ fn slot_has(strings: &Items<'_>, text: &[u8], x: usize) -> bool
     find::is_named(strings, x, text, None)
 }
 
-// The first of n slots that has a text, which is not standard; n where none has.
-fn slot_with(strings: &Items<'_>, text: &[u8], slots: &[usize], n: usize) -> usize
-    requires { (sid_of text.now ≡ None) × (n ≤ length slots.now) }
-    ensures { result ≡ slot_with_lem (items strings.now) text.now (take n slots.now) }
+// The first of the slots that has a text, which is not standard, if one has.
+fn slot_with(strings: &Items<'_>, text: &[u8], slots: &[usize]) -> Option<usize>
+    requires { sid_of text.now ≡ None }
+    ensures { result ≡ slot_with (items strings.now) text.now slots.now }
 {
-    slots[..n]
-        .iter()
-        .position(|x| slot_has(strings, text, *x))
-        .unwrap_or(n)
+    slots.iter().position(|x| slot_has(strings, text, *x))
 }
 
 // The new id of a slot, after the first n slots, whose ids stand from 8 on, and count own strings.
@@ -113,16 +98,13 @@ pub fn given_id(strings: &Items<'_>, slots: &[usize], n: usize, count: usize, x:
     if x < 391 {
         return x;
     }
-    let text = own_text(strings, x);
+    let text = find::own_text(strings, x);
     match strings::sid_of(text) {
         Some(k) => k,
-        None => {
-            let j = slot_with(strings, text, slots, n);
-            if j < n {
-                return slots[8 + j];
-            }
-            391 + count
-        }
+        None => match slot_with(strings, text, &slots[..n]) {
+            Some(j) => slots[8 + j],
+            None => 391 + count,
+        },
     }
 }
 
@@ -139,7 +121,7 @@ pub fn count_one(strings: &Items<'_>, own: Own, x: usize, id: usize) -> Own
     if id != 391 + count {
         return Own { count, total };
     }
-    let text = own_text(strings, x);
+    let text = find::own_text(strings, x);
     Own {
         count: count + 1,
         total: total + text.len(),

@@ -24,7 +24,7 @@ use Rattle.bodies.specs.Sources.{Sourced, subrs_from, new_subrs_from}
 use Rattle.bodies.specs.SubrsLaws.{new-subrs_is, new-body_is, new-subrs_many}
 use Rattle.bodies.specs.WaysLaws.{mapped-bodies}
 use Rattle.bodies.specs.declared.subrs.Source.{Source}
-use Rattle.bodies.specs.declared.subrs.Subrs.TheVariants.{Global}
+use Rattle.reach.specs.declared.Subrs.TheVariants.{Global}
 use Rattle.fds.specs.Locals.{fds_in}
 use Rattle.fds.specs.NewLocals.{locals_by}
 use Rattle.plan.specs.Sizes.{across_by, globals_by, glyphs_by}
@@ -53,7 +53,7 @@ length-by : (items : List (List ℕ)) (count sum : ℕ) → count ≡ length ite
 length-by items count sum many is =
     ap (λ (n : ℕ). index_len_lem n sum) many ∙ ap (index_len_lem (length items)) is ∙ sym (length-index items)
 
-module _ (b : List ℕ) (rows : List Row) (used ws table : List ℕ) (r : Planned) (ready : Ready b rows used ws r table) where
+module _ (b : List ℕ) (rows : List Row) (used ws : List ℕ) (table : List Ranks) (r : Planned) (ready : Ready b rows used ws r table) where
   abbrev p : Program
   p = program_of b r.order.f
 

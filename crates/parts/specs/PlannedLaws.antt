@@ -1,5 +1,5 @@
 -- What planning leaves: the words of the glyphs as they were, the way and the bodies those of the subset, and all bodies measured.
-use Prim.Native.Nat.{ℕ, ◌+◌, ◌≤◌}
+use Prim.Native.Nat.{ℕ, ◌+◌, ◌≤◌, ◌<◌}
 use Rattle.std.specs.Prelude.{◌≡◌, refl, Bool, false, take, get_or, None, Option, Some}
 use Rattle.std.proofs.Math.Path.{sym, ap, fun_ext}
 use Rattle.std.proofs.Common.{◌∙◌, subst, arith}
@@ -23,8 +23,8 @@ use Rattle.order.specs.Walks.{many_in}
 use Rattle.order_window.specs.declared.Held.{Held}
 use Rattle.order_window.specs.declared.Order.{Order}
 use Rattle.order_window.specs.declared.window.Kept.{Kept}
-use Rattle.order_window.specs.Window.{glyphs_of, Gathered}
-use Rattle.order_window.specs.GatheredLaws.{glyphs_many, same-glyphs, same-gathered}
+use Rattle.order_window.specs.Window.{glyphs_of, Steady, HoldsAll, Gathered}
+use Rattle.order_window.specs.GatheredLaws.{glyphs_many, steady-again, same-glyphs, same-gathered, same-steady}
 use Rattle.order_window.specs.Stays.{Stays}
 use Rattle.reach.specs.Reach.{rises}
 use Rattle.renumber.specs.Turn.{body_of_lem}
@@ -35,6 +35,7 @@ use Rattle.bodies.specs.WaysLaws.{each-parts, pruned-by}
 use Rattle.bodies.specs.declared.Manner.{Manner}
 use Rattle.fds.specs.Locals.{fds_in}
 use Rattle.fds.specs.NewLocals.{locals_by}
+use Rattle.renumber.specs.declared.Ranks.{Ranks}
 use Rattle.plan.specs.Ranked.{every_numbered, all_bits, RanksAll}
 use Rattle.plan.specs.Sizes.{FdsUsed, globals_by, glyphs_by, all_made, first_way, way_by, Plans, MeasureIn, Narrow}
 use Rattle.plan.specs.WayLaws.{new-globals, new-glyphs, way_is}
@@ -81,7 +82,7 @@ module _ (b : List ℕ) (o : Order) (used old window : List ℕ) (h : PlanIn b o
       let g : words_for (length p.globals) ≡ words_for o.f.globals.count = ap words_for (items-length b o.f.globals) in
       omega (arith, h.room, many_words)
 
-  module _ (rows : List Row) (narrow : Narrow rows) (ws table : List ℕ) (ranked : RankedAll) (s : RanksAll p rows used old ws table ranked) (size : length ws ≡ length old) where
+  module _ (rows : List Row) (narrow : Narrow rows) (ws : List ℕ) (table : List Ranks) (ranked : RankedAll) (s : RanksAll p rows used old ws table ranked) (size : length ws ≡ length old) where
     -- ---- the bits of the glyphs stay where the subroutines are ranked behind them
 
     bits_stay : take (words_for (many_in o.f)) ws ≡ take (words_for (many_in o.f)) old
@@ -98,13 +99,18 @@ module _ (b : List ℕ) (o : Order) (used old window : List ℕ) (h : PlanIn b o
     pub plan_ordered : Gathered b ws window o
     plan_ordered = same-gathered b old ws window o bits_stay size h.ordered
 
+    -- where no loop had begun, what was planned from is gathered in what the window holds by then
+    ordered_again : (last : List ℕ) → 0 < length last → (HoldsAll o → last ≡ window) → Steady b o.f old window o.held → Gathered b ws last o
+    ordered_again last some same s =
+        (steady-again b ws window last o plan_ordered (same-steady b old ws window o bits_stay s) some same).0
+
     within : FdsUsed p used (glyphs_of b o.f ws)
     within = subst (FdsUsed p used) order_stays h.within
 
     many : o.count ≡ length (glyphs_of b o.f ws)
     many = plan_ordered.many ∙ glyphs_many b o.f ws
 
-    module _ (rising : Bool) (sorted : rising ≡ rises rows) (table_long : 1280 ≤ length table) where
+    module _ (rising : Bool) (sorted : rising ≡ rises rows) (table_long : 256 ≤ length table) where
       -- the kept glyphs, whatever the window holds
       abbrev after : Held → Order
       after held = record { f = o.f; count = o.count; held = held }
@@ -136,7 +142,7 @@ module _ (b : List ℕ) (o : Order) (used old window : List ℕ) (h : PlanIn b o
             ∙ zero-way traced ranked.all (all_made Renumbered p rows ws used table ranked.globals (glyphs_of b o.f ws)) (ap is_renumbered (sym found) ∙ e)
 
         made : all_made r.way p rows ws used table ranked.globals (glyphs_of b o.f ws) ≡ true
-        made = sym t.sizes.told
+        made = t.sizes.made
 
         -- the charstrings that were measured are those of the subset
         charstrings_are : many_of (glyphs_by r.way p rows ws used table ranked.globals (glyphs_of b o.f ws)) ≡ (bodies_for b rows used ws planned).charstrings
@@ -164,15 +170,15 @@ module _ (b : List ℕ) (o : Order) (used old window : List ℕ) (h : PlanIn b o
               ranked = s.ranked;
               numbered = numbered;
               made = made;
-              globals_total_lem = t.sizes.of_globals refl
+              globals_total_lem = t.sizes.of_globals
                   ∙ ap total (new-globals p h.read.program rows narrow used ws ranked.globals table s.ranked (glyphs_of b o.f ws) within r.way numbered);
-              glyphs_total_lem = t.sizes.of_glyphs refl ∙ ap total charstrings_are;
+              glyphs_total_lem = t.sizes.of_glyphs ∙ ap total charstrings_are;
               globals_few = t.sizes.few_globals;
               glyphs_few = t.sizes.few_glyphs;
             }
 
         plan_summed : 256 ≤ length totals → Summed b rows used ws planned table totals
-        plan_summed long = record { long = long; sums = t.sizes.of_locals refl; few = t.sizes.few_locals refl }
+        plan_summed long = record { long = long; sums = t.sizes.of_locals; few = t.sizes.few_locals }
 
         -- the way and the bodies are the subset's
         plan_pruned : record { way = r.way; bodies = bodies_for b rows used ws planned } ≡ pruned p rows (fds_in used) (glyphs_of b o.f old) (flag_of traced)
@@ -203,12 +209,14 @@ module _ (b : List ℕ) (o : Order) (used old window : List ℕ) (h : PlanIn b o
             subst Whole (e ∙ y ∙ z) w
 
         pub returns_planned : 256 ≤ length totals → (q : Order) → q.f ≡ o.f → q.count ≡ o.count → q.held ≡ held → (last : List ℕ) → Gathered b ws last q
+            → (HoldsAll o → (q ≡ o) × (last ≡ window))
             → Ready b rows used ws (planned_by q) table × Summed b rows used ws (planned_by q) table totals × Gathered b ws last q × (q.f ≡ o.f) × (q.count ≡ o.count)
             × (glyphs_of b o.f ws ≡ glyphs_of b o.f old)
             × (record { way = r.way; bodies = bodies_for b rows used ws (planned_by q) } ≡ pruned p rows (fds_in used) (glyphs_of b o.f old) (flag_of traced))
-        returns_planned long q f n g last gathered =
+            × (HoldsAll o → (q ≡ o) × (last ≡ window)) × (Steady b o.f old window o.held → Gathered b ws last o)
+        returns_planned long q f n g last gathered whole =
             let w = whole_moved q f n g (plan_ready, plan_summed long, plan_pruned) in
-            (w.0, w.1, gathered, f, n, sym order_stays, w.2)
+            (w.0, w.1, gathered, f, n, sym order_stays, w.2, whole, ordered_again last gathered.some (λ h. (whole h).1))
 
 -- who lent the window has what it holds after it was moved
 pub stays_gathered : (a b : Kept) → Stays a b → (window : List ℕ) → window ≡ b.window.now → Gathered a.font.now a.words.now window b.o

@@ -1,12 +1,9 @@
 -- The Private parts of the FDs in use as the plan left them: what their measures and writers ask, and that what is measured and written is
 -- the subset's.
-use Rattle.std.specs.Prelude.{ℕ, zero, suc, ◌+◌, ◌*◌, ◌≤◌, ◌<◌, ◌≡◌, Bool, true, false, List, [], ◌∷◌, eqb, length, take, get_or}
-use Rattle.std.proofs.Common.{sym, ap, ◌∙◌, subst, arith, length-append, get_or-take}
+use Rattle.std.specs.Prelude.{ℕ, zero, suc, ◌+◌, ◌*◌, ◌≤◌, ◌<◌, ◌≡◌, Bool, true, false, List, [], ◌∷◌, eqb, length, take, drop, get_or}
+use Rattle.std.proofs.Common.{sym, ap, ◌∙◌, subst, arith, length-append, get_or-take, take_at}
 use Rattle.octets.specs.Pick.{pick, pick_ind}
 use Rattle.octets.specs.PickLaws.{both_hold}
-use Rattle.octets.specs.Octets.{put}
-use Rattle.octets.specs.PutLaws.{put-length, take_put}
-use Rattle.octets.specs.Lists.{sum_of}
 use Rattle.index.specs.Write.{total, index_bytes, index_len_lem}
 use Rattle.index.specs.WriteLaws.{length-index, total-within}
 use Rattle.unfold.specs.Unfold.{Row, local}
@@ -25,12 +22,13 @@ use Rattle.bodies.specs.Pruning.{all_hold, bodies_by}
 use Rattle.bodies.specs.WritingLaws.{items_many}
 use Rattle.bodies.specs.SubrsLaws.{reached-all, subrs-each, new-subrs_is, kept_many}
 use Rattle.bodies.specs.RecordLaws.{reached-told}
-use Rattle.private_dicts.specs.Privates.{matrices_by, dicts_by, font_dicts_by, Placed, sizes_of, lens_of}
+use Rattle.private_dicts.specs.Privates.{matrices_by, parts_len, dicts_by, font_dicts_by, no_part, Placed, parts_of}
+use Rattle.private_dicts.specs.declared.part.Part.{Part}
 use Rattle.private_dicts.specs.DictsLaws.{matrices_length, font-dicts_are, dicts_long}
 use Rattle.fds.specs.Locals.{in_use_lem, fds_in}
 use Rattle.fds.specs.NewLocals.{locals_by, new_locals, LocalsIn}
 use Rattle.fds.specs.Parts.{left_in, part_at, PartsFit, SizesParts}
-use Rattle.fds.specs.PartsLaws.{used-count, mapped-used, sizes_are, lens_are, parts_are}
+use Rattle.fds.specs.PartsLaws.{used-count, mapped-used, measures_are, parts_are}
 use Rattle.fds.specs.ListLaws.{used_there}
 use Rattle.fds.specs.NewParts.{Counted, parts_for, PartsRoom}
 use Rattle.fds.specs.NewPartsLaws.{holds-one}
@@ -44,15 +42,9 @@ use Rattle.subset.specs.Way.{is_renumbered}
 
 -- ---- tables
 
--- what was put in front stands in front
-front-put : (old bs : List ℕ) (n : ℕ) → n ≡ length bs → take n (put old 0 bs) ≡ bs
-front-put old bs n e =
-    let z : n ≡ 0 + length bs = omega arith in
-    ap (λ (k : ℕ). take k (put old 0 bs)) z ∙ take_put old 0 bs (omega arith)
-
 -- a Private DICT is no longer than all parts
-size-within : (p : Program) (fs : List ℕ) (lss : List (List (List ℕ))) (k : ℕ) → get_or (sizes_of p fs lss) k 0 ≤ length (private_parts p fs lss)
-unfolding sizes_of private_parts
+size-within : (p : Program) (fs : List ℕ) (lss : List (List (List ℕ))) (k : ℕ) → (get_or (parts_of p fs lss) k no_part).size ≤ length (private_parts p fs lss)
+unfolding parts_of private_parts
 size-within p [] lss k = omega arith
 size-within p (f ∷ fs) [] k = omega arith
 size-within p (f ∷ fs) (ls ∷ lss) zero =
@@ -64,7 +56,7 @@ size-within p (f ∷ fs) (ls ∷ lss) zero =
 size-within p (f ∷ fs) (ls ∷ lss) (suc k) =
     omega (arith, length-append (private_part (private_of p f) ls) (private_parts p fs lss), size-within p fs lss k)
 
-module _ (b : List ℕ) (rows : List Row) (used ws table : List ℕ) (r : Planned) (ready : Ready b rows used ws r table)
+module _ (b : List ℕ) (rows : List Row) (used ws : List ℕ) (table : List Ranks) (r : Planned) (ready : Ready b rows used ws r table)
     (totals : List ℕ) (summed : Summed b rows used ws r table totals) where
   abbrev p : Program
   p = program_of b r.order.f
@@ -126,21 +118,15 @@ module _ (b : List ℕ) (rows : List Row) (used ws table : List ℕ) (r : Planne
         (holds-one way p rows ws table r.how.globals used d h u hold))
         ∙ sym (ap length (new-subrs_is way rows marks calls (local d) (locals_of p d)))
 
-  -- the size of its Private DICT and the length of its part by the tables
-  abbrev size_at : ℕ → ℕ
-  size_at d = (part_at p r.how.way table totals d).size
-
-  abbrev len_at : ℕ → ℕ
-  len_at d = (part_at p r.how.way table totals d).len
+  -- the part of an FD by the tables
+  abbrev part : ℕ → Part
+  part d = part_at p r.how.way table totals d
 
   -- those of the FDs in use are the subset's
-  sizes_same : mapped size_at (fds_in used) ≡ sizes_of p (fds_in used) locals
-  sizes_same = sizes_are p new r.how.way table totals used many summed.sums ∙ ap (sizes_of p (fds_in used)) new_are
+  measures_same : mapped part (fds_in used) ≡ parts_of p (fds_in used) locals
+  measures_same = measures_are p new r.how.way table totals used many summed.sums ∙ ap (parts_of p (fds_in used)) new_are
 
-  lens_same : mapped len_at (fds_in used) ≡ lens_of p (fds_in used) locals
-  lens_same = lens_are p new r.how.way table totals used many summed.sums ∙ ap (lens_of p (fds_in used)) new_are
-
-  parts_same : sum_of (mapped len_at (fds_in used)) ≡ length (private_parts p (fds_in used) locals)
+  parts_same : parts_len (mapped part (fds_in used)) ≡ length (private_parts p (fds_in used) locals)
   parts_same =
       parts_are p new r.how.way table totals used many summed.sums
       ∙ ap (λ (l : List (List (List ℕ))). length (private_parts p (fds_in used) l)) new_are
@@ -151,61 +137,49 @@ module _ (b : List ℕ) (rows : List Row) (used ws table : List ℕ) (r : Planne
   parts_fit d h u =
       let k = ready.asked.locals.ranks d h u in
       record {
-        few = pick_ind (λ (n : ℕ). n < 65536) (is_renumbered r.how.way) (get_or table (512 + d) 0) (get_or table (256 + d) 0) (λ t. k.few_reached) (λ t. k.few);
+        few = pick_ind (λ (n : ℕ). n < 65536) (is_renumbered r.how.way) (ranks_in table d).reached (ranks_in table d).count (λ t. k.few_reached) (λ t. k.few);
         short = omega (arith, summed.few d h u);
       }
 
-  module _ {oldSizes oldLens sizes lens : List ℕ} {all : ℕ} (s : SizesParts p r.how.way table totals used oldSizes oldLens sizes lens all)
-      (sized : 256 ≤ length oldSizes) (long : 256 ≤ length oldLens) where
+  module _ {old parts : List Part} {all : ℕ} (s : SizesParts p r.how.way table totals used old parts all) where
     pub all-parts : all ≡ length (private_parts p (fds_in used) locals)
     all-parts = s.together ∙ parts_same
 
-    pub sizes_held : take (length (fds_in used)) sizes ≡ sizes_of p (fds_in used) locals
-    sizes_held =
-        ap (take (length (fds_in used))) s.dicts
-        ∙ front-put oldSizes (mapped size_at (fds_in used)) (length (fds_in used)) (sym (length-mapped size_at (fds_in used))) ∙ sizes_same
-
-    lens_put : take (length (fds_in used)) lens ≡ mapped len_at (fds_in used)
-    lens_put =
+    front_is : take (length (fds_in used)) parts ≡ mapped part (fds_in used)
+    front_is =
         ap (take (length (fds_in used))) s.parts
-        ∙ front-put oldLens (mapped len_at (fds_in used)) (length (fds_in used)) (sym (length-mapped len_at (fds_in used)))
+        ∙ take_at (mapped part (fds_in used)) (drop (length (fds_in used)) old) (length (fds_in used)) (length-mapped part (fds_in used))
 
-    pub lens_held : take (length (fds_in used)) lens ≡ lens_of p (fds_in used) locals
-    lens_held = lens_put ∙ lens_same
+    pub parts_held : take (length (fds_in used)) parts ≡ parts_of p (fds_in used) locals
+    parts_held = front_is ∙ measures_same
 
     -- ---- Font DICTs, the FDs in use being listed
 
     module _ {fds : List ℕ} (listed : fds ≡ fds_in used) where
-      pub dicts_are : (from : ℕ) → font_dicts_by p fds sizes lens from ≡ font_dicts p from (fds_in used) locals
+      pub dicts_are : (from : ℕ) → font_dicts_by p fds parts from ≡ font_dicts p from (fds_in used) locals
       dicts_are from =
-          let n = length (fds_in used) in
-          ap (λ (l : List ℕ). font_dicts_by p l sizes lens from) listed
-          ∙ ap (λ (l : List ℕ). dicts_by (matrices_by p (fds_in used)) l (take n lens) from) sizes_held
-          ∙ ap (λ (l : List ℕ). dicts_by (matrices_by p (fds_in used)) (sizes_of p (fds_in used) locals) l from) lens_held
+          ap (λ (l : List ℕ). font_dicts_by p l parts from) listed
+          ∙ ap (λ (qs : List Part). dicts_by (matrices_by p (fds_in used)) qs from) parts_held
           ∙ sym (font-dicts_are p from (fds_in used) locals)
 
       pub dicts-placed : (from : ℕ) → from + length (private_parts p (fds_in used) locals) ≤ 67108864
-          → length (index_bytes (font_dicts p from (fds_in used) locals)) ≤ 67108864 → Placed p fds sizes lens from
+          → length (index_bytes (font_dicts p from (fds_in used) locals)) ≤ 67108864 → Placed p fds parts from
       dicts-placed from small few =
-          let n : length (fds_in used) ≤ 256 = used-count used 256 in
-          let e : length (mapped size_at (fds_in used)) ≡ length (fds_in used) = length-mapped size_at (fds_in used) in
-          let g : length (mapped len_at (fds_in used)) ≡ length (fds_in used) = length-mapped len_at (fds_in used) in
-          let i : length sizes ≡ length oldSizes = ap length s.dicts ∙ put-length oldSizes 0 (mapped size_at (fds_in used)) (omega arith) in
-          let j : length lens ≡ length oldLens = ap length s.parts ∙ put-length oldLens 0 (mapped len_at (fds_in used)) (omega arith) in
-          subst (λ (l : List ℕ). Placed p l sizes lens from) (sym listed)
+          let e : length (mapped part (fds_in used)) ≡ length (fds_in used) = length-mapped part (fds_in used) in
+          let i = ap length s.parts ∙ length-append (mapped part (fds_in used)) (drop (length (fds_in used)) old) in
+          subst (λ (l : List ℕ). Placed p l parts from) (sym listed)
           (record {
             short = omega (arith, ap total (listed_are from), total-within (font_dicts p from (fds_in used) locals));
-            sized = omega arith;
             long = omega arith;
             small = λ k l.
-                let v : get_or sizes k 0 ≡ get_or (sizes_of p (fds_in used) locals) k 0
-                = sym (get_or-take (length (fds_in used)) sizes k 0 l) ∙ ap (λ (x : List ℕ). get_or x k 0) sizes_held in
+                let v : (get_or parts k no_part).size ≡ (get_or (parts_of p (fds_in used) locals) k no_part).size
+                = ap (λ (q : Part). q.size) (sym (get_or-take (length (fds_in used)) parts k no_part l) ∙ ap (λ (x : List Part). get_or x k no_part) parts_held) in
                 omega (arith, size-within p (fds_in used) locals k);
-            ends = let v : sum_of (take (length (fds_in used)) lens) ≡ length (private_parts p (fds_in used) locals) = ap sum_of lens_put ∙ parts_same in omega arith;
+            ends = let v : parts_len (take (length (fds_in used)) parts) ≡ length (private_parts p (fds_in used) locals) = ap parts_len front_is ∙ parts_same in omega arith;
           })
         where
-          listed_are : (x : ℕ) → font_dicts_by p (fds_in used) sizes lens x ≡ font_dicts p x (fds_in used) locals
-          listed_are x = ap (λ (l : List ℕ). font_dicts_by p l sizes lens x) (sym listed) ∙ dicts_are x
+          listed_are : (x : ℕ) → font_dicts_by p (fds_in used) parts x ≡ font_dicts p x (fds_in used) locals
+          listed_are x = ap (λ (l : List ℕ). font_dicts_by p l parts x) (sym listed) ∙ dicts_are x
 
   -- they are FDs of the font, and few
   module _ {fds : List ℕ} (listed : fds ≡ fds_in used) where
@@ -222,16 +196,13 @@ module _ (b : List ℕ) (rows : List Row) (used ws table : List ℕ) (r : Planne
       ≡ index_len_lem (length (fds_in used)) (total (matrices_by p (fds_in used)) + 11 * length (fds_in used))
   dicts-length from =
       let ms = matrices_by p (fds_in used) in
-      let ss = sizes_of p (fds_in used) locals in
-      let ls = lens_of p (fds_in used) locals in
+      let qs = parts_of p (fds_in used) locals in
       let o : length ms ≡ length (fds_in used) = matrices_length p (fds_in used) in
-      let m : length ss ≡ length (fds_in used)
-      = ap length (sym sizes_same) ∙ length-mapped size_at (fds_in used) in
-      let n : length ls ≡ length (fds_in used)
-      = ap length (sym lens_same) ∙ length-mapped len_at (fds_in used) in
-      let k = dicts_long ms ss ls from (record { sized = m ∙ sym o; long = n ∙ sym o }) in
-      ap (λ (x : List (List ℕ)). length (index_bytes x)) (font-dicts_are p from (fds_in used) locals) ∙ length-index (dicts_by ms ss ls from)
-      ∙ ap (λ (x : ℕ). index_len_lem x (total (dicts_by ms ss ls from))) (k.0 ∙ o)
+      let m : length qs ≡ length (fds_in used)
+      = ap length (sym measures_same) ∙ length-mapped part (fds_in used) in
+      let k = dicts_long ms qs from (m ∙ sym o) in
+      ap (λ (x : List (List ℕ)). length (index_bytes x)) (font-dicts_are p from (fds_in used) locals) ∙ length-index (dicts_by ms qs from)
+      ∙ ap (λ (x : ℕ). index_len_lem x (total (dicts_by ms qs from))) (k.0 ∙ o)
       ∙ ap (index_len_lem (length (fds_in used))) (k.1 ∙ ap (λ (x : ℕ). total ms + 11 * x) o)
 
   -- ---- written

@@ -9,6 +9,7 @@ use Rattle.faithful.specs.FontHeld.{FontHeld}
 use Rattle.small.specs.Small.{small_size}
 use Rattle.order_window.specs.declared.Order.{Order}
 use Rattle.order_window.specs.Window.{glyphs_of, Gathered}
+use Rattle.renumber.specs.declared.Ranks.{Ranks}
 use Rattle.bodies.specs.Pruning.{bodies_by}
 use Rattle.fds.specs.Locals.{in_use_lem, fds_in, UsedOf}
 use Rattle.fds.specs.NewLocals.{new_locals}
@@ -32,7 +33,7 @@ module _ (b : List ℕ) (rows : List Row) (used ws : List ℕ) (r : Planned) whe
   bodies_for = bodies_by (program_of b r.order.f) rows r.how.way (fds_in used) (glyphs_of b r.order.f ws)
 
   -- what the plan leaves
-  pub record Ready (table : List ℕ) : Type 0 where
+  pub record Ready (table : List Ranks) : Type 0 where
     pub read : FontHeld b r.order.f
     pub narrow : Narrow rows
     pub asked : MeasureIn b r.order used ws r.how table rows
@@ -48,7 +49,7 @@ module _ (b : List ℕ) (rows : List Row) (used ws : List ℕ) (r : Planned) whe
     pub glyphs_few : r.glyphs_total ≤ 21989897011200
 
   -- a table of the bytes of the new local subroutines of each FD in use
-  pub record Summed (table totals : List ℕ) : Type 0 where
+  pub record Summed (table : List Ranks) (totals : List ℕ) : Type 0 where
     pub long : 256 ≤ length totals
     pub sums : (d : ℕ) → d < 256 → in_use_lem used d ≡ true
         → get_or totals d 0 ≡ total (new_locals r.how.way (program_of b r.order.f) rows ws table r.how.globals d)

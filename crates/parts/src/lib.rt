@@ -11,18 +11,20 @@ ghost use Rattle.subset.specs.Pruned.{pruned};
 ghost use Rattle.subset.specs.Flag.{flag_of};
 ghost use Rattle.bodies.specs.Ways.{kept_count};
 ghost use Rattle.fds.specs.Locals.{fds_in};
-ghost use Rattle.order_window.specs.Window.{glyphs_of, Gathered};
+ghost use Rattle.order_window.specs.Window.{glyphs_of, Steady, HoldsAll, Gathered};
 ghost use Rattle.parts.specs.Ready.{PlanIn, bodies_for, Ready, Summed};
 
 use bodies::Manner;
 use bodies::measured::Measured;
 use bodies::subroutines::Subroutines;
-use bodies::subrs::{Source, Subrs};
+use bodies::subrs::Source;
 use cff::loaded::Loaded;
 use fds::in_use::InUse;
 use octets::out::Out;
 use order_window::Order;
 use order_window::window::Kept;
+use reach::Subrs;
+use renumber::Ranks;
 
 // The kept glyphs, how bodies are written by the way that was found, and the bytes of the globals and of the charstrings by it.
 #[derive(Clone, Copy)]
@@ -34,7 +36,7 @@ pub struct Planned {
 }
 
 // Ranks all subroutines in the work words behind the bits of the glyphs, finds the way, and measures all bodies by it: those of the locals of
-// each FD in use in a table.
+// each FD in use in a table. A window that holds all kept glyphs is left as it was; of another the order that was given still stands.
 pub fn plan_all(
     o: Order,
     font: &[u8],
@@ -43,16 +45,18 @@ pub fn plan_all(
     used: &[u32],
     words: &mut [u32],
     window: &mut [u32],
-    table: &mut [usize],
+    table: &mut [Ranks],
     totals: &mut [usize],
 ) -> Planned
-    requires { (PlanIn font.now o used.now words.old window.old) × (1280 ≤ length table.old) × (256 ≤ length totals.old) }
+    requires { (PlanIn font.now o used.now words.old window.old) × (256 ≤ length table.old) × (256 ≤ length totals.old) }
     ensures { (Ready font.now (rows_of rows.now) used.now words.new result table.new)
         × (Summed font.now (rows_of rows.now) used.now words.new result table.new totals.new)
         × (Gathered font.now words.new window.new result.order) × (result.order.f ≡ o.f) × (result.order.count ≡ o.count)
         × (glyphs_of font.now o.f words.new ≡ glyphs_of font.now o.f words.old)
         × (record { way = result.how.way; bodies = bodies_for font.now (rows_of rows.now) used.now words.new result }
-        ≡ pruned (program_of font.now o.f) (rows_of rows.now) (fds_in used.now) (glyphs_of font.now o.f words.old) (flag_of traced)) }
+        ≡ pruned (program_of font.now o.f) (rows_of rows.now) (fds_in used.now) (glyphs_of font.now o.f words.old) (flag_of traced))
+        × (HoldsAll o → (result.order ≡ o) × (window.new ≡ window.old))
+        × (Steady font.now o.f words.old window.old o.held → Gathered font.now words.new window.new o) }
 {
     let loaded = Loaded {
         bytes: font,
@@ -112,7 +116,7 @@ pub fn put_globals(
     font: &[u8],
     used: &[u32],
     words: &[u32],
-    table: &[usize],
+    table: &[Ranks],
     rows: &[u8],
     out: &mut Out<'_>,
 )

@@ -6,10 +6,10 @@ use mathlib.Core.List.{List, [], ◌∷◌, ◌++◌}
 use native.Mathlib.Omega.{arith}
 use Rattle.subset.specs.Kept.{those}
 use Rattle.renumber.specs.declared.Ranks.{Ranks}
-use Rattle.bodies.specs.Ways.{ranks_in}
+use Rattle.bodies.specs.Ways.{no_ranks, ranks_in}
 use Rattle.fds.specs.Locals.{in_use_lem, used_below, fds_in}
 use Rattle.fds.specs.UsedLaws.{used-next, unused_next}
-use Rattle.plan.specs.Sizes.{no_ranks, across_by, last_of}
+use Rattle.plan.specs.Sizes.{across_by, last_of}
 
 -- one more is the last
 last_more : (fs : List ℕ) (f : ℕ) → last_of (fs ++ (f ∷ [])) ≡ f
@@ -55,7 +55,7 @@ module _ (used : List ℕ) (count last fd : ℕ) (h : Counting used count last f
 
 -- ---- the ranks of the only one
 
-module _ (table : List ℕ) where
+module _ (table : List Ranks) where
   one-across : (fs : List ℕ) → length fs ≡ 1 → ranks_in table (last_of fs) ≡ across_by table fs
   unfolding last_of
   one-across [] e = absurd (let y : ⊥ = omega arith in y)

@@ -18,11 +18,11 @@ use Rattle.renumber.specs.Ranks.{calls_by}
 use Rattle.renumber.specs.RanksLaws.{HoldsRanks, calls-in, calls-across, calls-across-none}
 use Rattle.renumber.specs.HoldsLaws.{narrow_set}
 use Rattle.renumber.specs.declared.Ranks.{Ranks}
-use Rattle.bodies.specs.Ways.{body_by, subrs_by, reached_in, ranks_in}
+use Rattle.bodies.specs.Ways.{body_by, subrs_by, reached_in, no_ranks, ranks_in}
 use Rattle.fds.specs.Locals.{in_use_lem, fds_in, numbered, all_numbered}
 use Rattle.fds.specs.NewLocals.{locals_by}
 use Rattle.plan.specs.Ranked.{AllRanked, globals_numbered, every_numbered}
-use Rattle.plan.specs.Sizes.{no_ranks, across_by, FdsUsed, globals_by, glyphs_by, Narrow}
+use Rattle.plan.specs.Sizes.{across_by, FdsUsed, globals_by, glyphs_by, Narrow}
 use Rattle.plan.specs.StandsLaws.{stands_reached, stands_holds, stands_all}
 use Rattle.plan.specs.SameLaws.{body_same, subrs-same, each-alike}
 use Rattle.subset.specs.Way.{is_renumbered}
@@ -49,7 +49,7 @@ fds_at p [] i h = absurd (zero_one (omega arith))
 fds_at p (g ∷ order) zero h = refl
 fds_at p (g ∷ order) (suc i) h = fds_at p order i (omega arith)
 
-module _ (p : Program) (good : GoodProgram p) (rows : List Row) (narrow : Narrow rows) (used ws : List ℕ) (globals : Ranks) (table : List ℕ)
+module _ (p : Program) (good : GoodProgram p) (rows : List Row) (narrow : Narrow rows) (used ws : List ℕ) (globals : Ranks) (table : List Ranks)
     (h : AllRanked p rows used ws globals table) (way : Way) (all : is_renumbered way ≡ true → every_numbered p rows (fds_in used) ≡ true) where
   globals-all : is_renumbered way ≡ true → reached (global_set rows) ≡ count_below (global_set rows) (length p.globals)
   globals-all z = eqb-true _ _ (both_hold (globals_numbered p rows) (all_numbered p rows (fds_in used)) (all z)).0

@@ -14,10 +14,10 @@ use Rattle.faithful.specs.Laid.{GoodProgram}
 use Rattle.reach.specs.Reach.{rises}
 use Rattle.renumber.specs.Ranks.{Ranked}
 use Rattle.renumber.specs.declared.Ranks.{Ranks}
-use Rattle.bodies.specs.Ways.{ranks_in}
+use Rattle.bodies.specs.Ways.{no_ranks, ranks_in}
 use Rattle.fds.specs.Locals.{in_use_lem, fds_in, UsedOf}
 use Rattle.plan.specs.Ranked.{AllRanked}
-use Rattle.plan.specs.Sizes.{no_ranks, across_by, FdsUsed, MeasureIn}
+use Rattle.plan.specs.Sizes.{across_by, FdsUsed, MeasureIn}
 use Rattle.plan.specs.StandsLaws.{stands_ranked}
 use Rattle.subset.specs.declared.Way.{Way}
 
@@ -27,7 +27,7 @@ unfolding count_below
 none-ranked ws = record { inside = omega arith; few = omega arith; few_reached = omega arith; reaches = refl; low = refl; high = refl }
 
 module _ (b : List ℕ) (o : Order) (font : GoodFont b o.f) (good : GoodProgram (program_of b o.f)) (rows : List Row) (used ws : List ℕ)
-    (globals : Ranks) (table : List ℕ) (h : AllRanked (program_of b o.f) rows used ws globals table) where
+    (globals : Ranks) (table : List Ranks) (h : AllRanked (program_of b o.f) rows used ws globals table) where
   local_ranked : (x : ℕ) → x < 256 → in_use_lem used x ≡ true → Ranked ws (ranks_in table x)
   local_ranked x k u =
       stands_ranked ws (ranks_in table x) (local_set rows x) (length (locals_of (program_of b o.f) x)) (h.local_ranks x k u) (good.locals x).count
@@ -45,7 +45,7 @@ module _ (b : List ℕ) (o : Order) (font : GoodFont b o.f) (good : GoodProgram 
   across-ranked (x ∷ y ∷ fs) e = none-ranked ws
 
   pub measure_in : (way : Way) (rising : Bool) → FdsUsed (program_of b o.f) used (glyphs_of b o.f ws) → o.count ≡ length (glyphs_of b o.f ws)
-      → length b ≤ 67108864 → 256 ≤ length used → 1280 ≤ length table → UsedOf (length (program_of b o.f).privates) used → (rising ≡ true → rises rows ≡ true)
+      → length b ≤ 67108864 → 256 ≤ length used → 256 ≤ length table → UsedOf (length (program_of b o.f).privates) used → (rising ≡ true → rises rows ≡ true)
       → MeasureIn b o used ws (record { way = way; globals = globals; rising = rising }) table rows
   measure_in way rising within many size u a fds sorted =
       let fd : ℕ → ℕ = λ i. get_or (program_of b o.f).fds (get_or (glyphs_of b o.f ws) i 0) 0 in

@@ -1,6 +1,6 @@
 -- Laws of measuring all bodies, part by part: the globals, the locals of the FDs in use, the charstrings.
 use Rattle.std.specs.Prelude.{ℕ, ◌≤◌, ◌≡◌, refl, Bool, true, false, List, Option, None, Some}
-use Rattle.std.proofs.Common.{sym, ap, ◌∙◌, subst, arith}
+use Rattle.std.proofs.Common.{sym, ap, ◌∙◌, subst}
 use Rattle.octets.specs.Pick.{pick}
 use Rattle.octets.specs.PickLaws.{first-fails}
 use Rattle.unfold.specs.Unfold.{Row}
@@ -11,7 +11,7 @@ use Rattle.renumber.specs.Ranks.{calls_by}
 use Rattle.bodies.specs.Ways.{holds, measured_of, subrs_by, reached_in, site_in}
 use Rattle.bodies.specs.Sizes.{Bounded}
 use Rattle.bodies.specs.WritingLaws.{measured_failed, measured-total}
-use Rattle.bodies.specs.declared.subrs.Subrs.TheVariants.{Global}
+use Rattle.reach.specs.declared.Subrs.TheVariants.{Global}
 use Rattle.bodies.specs.Pruning.{all_hold}
 use Rattle.fds.specs.Locals.{fds_in}
 use Rattle.fds.specs.NewLocals.{locals_by, MeasuresLocals}
@@ -23,13 +23,13 @@ use Rattle.order_window.specs.Stays.{kept_glyphs, Stays, stays-of}
 use Rattle.order_window.specs.declared.Held.{Held}
 use Rattle.order_window.specs.declared.Order.{Order}
 use Rattle.order_window.specs.declared.window.Kept.{Kept}
-use Rattle.plan.specs.Sizes.{across_by, globals_by, glyphs_by, all_made, MeasuresAll, MeasureIn, by_way_lem}
-use Rattle.plan.specs.declared.sizes.Measures.{Measures}
+use Rattle.plan.specs.Sizes.{across_by, globals_by, glyphs_by, all_made, Totaled, MeasuresAll, MeasureIn, by_way_lem}
+use Rattle.plan.specs.declared.sizes.Totals.{Totals}
 use Rattle.subset.specs.declared.Way.{Way}
 
 -- what was measured, by its parts
-abbrev pub measures : Bool → ℕ → ℕ → Measures
-measures t g c = record { all = t; globals = g; glyphs = c }
+abbrev pub totals_of : ℕ → ℕ → Totals
+totals_of g c = record { globals = g; glyphs = c }
 
 either : (t u v : Bool) → pick u v false ≡ false → pick t (pick u v false) false ≡ false
 either true u v e = e
@@ -45,7 +45,7 @@ every true true v a b e = e
 every true false v a b e = absurd (zero_one cc)
 every false u v a b e = absurd (zero_one cc)
 
-module _ (way : Way) (p : Program) (rows : List Row) (ws used table : List ℕ) (globals : Ranks) (order : List ℕ) where
+module _ (way : Way) (p : Program) (rows : List Row) (ws used : List ℕ) (table : List Ranks) (globals : Ranks) (order : List ℕ) where
   -- the globals as they were measured, their calls by the ranks across
   pub globals-measured : (calls : Ranks) → calls ≡ across_by table (fds_in used) → (m : Option ℕ)
       → m ≡ measured_of (subrs_by way rows (reached_in ws globals) (calls_by ws calls globals) (site_in Global) p.globals)
@@ -53,7 +53,7 @@ module _ (way : Way) (p : Program) (rows : List Row) (ws used table : List ℕ) 
   globals-measured calls across m is =
       is ∙ ap (λ (q : Ranks). measured_of (subrs_by way rows (reached_in ws globals) (calls_by ws q globals) (site_in Global) p.globals)) across
 
-module _ (way : Way) (p : Program) (rows : List Row) (ws used table : List ℕ) (globals : Ranks) (order totals : List ℕ) where
+module _ (way : Way) (p : Program) (rows : List Row) (ws used : List ℕ) (table : List Ranks) (globals : Ranks) (order totals : List ℕ) where
   -- the globals and the charstrings by the way; whether the locals of no FD fail
   abbrev the_globals : Option (List (List ℕ))
   the_globals = globals_by way p rows ws used table globals order
@@ -64,73 +64,70 @@ module _ (way : Way) (p : Program) (rows : List Row) (ws used table : List ℕ) 
   abbrev locals_hold : Bool
   locals_hold = all_hold (locals_by way p rows ws table globals) (fds_in used)
 
-  abbrev Whole : Measures → Type 0
+  abbrev Whole : Option Totals → Type 0
   Whole r = MeasuresAll way p rows ws used table globals order totals r
 
-  none : all_made way p rows ws used table globals order ≡ false → Whole (measures false 0 0)
-  none e =
-      record {
-        told = sym e;
-        of_globals = λ z. absurd (zero_one cc);
-        of_locals = λ z. absurd (zero_one cc);
-        of_glyphs = λ z. absurd (zero_one cc);
-        few_globals = omega arith;
-        few_locals = λ z. absurd (zero_one cc);
-        few_glyphs = omega arith;
-      }
+  fails : all_made way p rows ws used table globals order ≡ false → Whole None
+  fails e = record { told = sym e; sums = λ t z. absurd (zero_one cc) }
 
   -- the globals fail
-  pub globals-fail : measured_of the_globals ≡ None → Whole (measures false 0 0)
-  globals-fail e = none (first-fails (holds the_globals) (pick locals_hold (holds the_glyphs) false) (measured_failed the_globals e))
+  pub globals-fail : measured_of the_globals ≡ None → Whole None
+  globals-fail e = fails (first-fails (holds the_globals) (pick locals_hold (holds the_glyphs) false) (measured_failed the_globals e))
 
   module _ (t : Bool) (ls : MeasuresLocals way p rows ws table globals used totals t) where
     -- the locals of an FD fail
-    pub locals-fail : t ≡ false → Whole (measures false 0 0)
+    pub locals-fail : t ≡ false → Whole None
     locals-fail e =
-        none (either (holds the_globals) locals_hold (holds the_glyphs)
+        fails (either (holds the_globals) locals_hold (holds the_glyphs)
         (first-fails locals_hold (holds the_glyphs) (sym ls.told ∙ e)))
 
     -- a charstring fails
-    pub glyphs-fail : measured_of the_glyphs ≡ None → Whole (measures false 0 0)
+    pub glyphs-fail : measured_of the_glyphs ≡ None → Whole None
     glyphs-fail e =
-        none (last (holds the_globals) locals_hold (holds the_glyphs)
+        fails (last (holds the_globals) locals_hold (holds the_glyphs)
         (measured_failed the_glyphs e))
 
     -- none fails
     pub all-measured : (g c : ℕ) → measured_of the_globals ≡ Some g → t ≡ true
-        → measured_of the_glyphs ≡ Some c → g ≤ 21989897011200 → c ≤ 21989897011200 → Whole (measures true g c)
+        → measured_of the_glyphs ≡ Some c → g ≤ 21989897011200 → c ≤ 21989897011200 → Whole (Some (totals_of g c))
     all-measured g c e u d gs cs =
         let x = measured-total the_globals g e in
         let y = measured-total the_glyphs c d in
+        let m = every (holds the_globals) locals_hold (holds the_glyphs) x.0 (sym ls.told ∙ u) y.0 in
         record {
-          told = sym (every (holds the_globals) locals_hold (holds the_glyphs)
-              x.0 (sym ls.told ∙ u) y.0);
-          of_globals = λ z. x.1;
-          of_locals = λ z. ls.sums u;
-          of_glyphs = λ z. y.1;
-          few_globals = gs;
-          few_locals = λ z. ls.few u;
-          few_glyphs = cs;
+          told = sym m;
+          sums = λ s z.
+              let k : totals_of g c ≡ s = cc in
+              subst (Totaled way p rows ws used table globals order totals) k
+              (record {
+                made = m;
+                of_globals = x.1;
+                of_locals = ls.sums u;
+                of_glyphs = y.1;
+                few_globals = gs;
+                few_locals = ls.few u;
+                few_glyphs = cs;
+              });
         }
 
   -- what the code returns: each part as it was measured
   module _ (m : Option ℕ) (is : m ≡ measured_of the_globals) where
-    pub returns_globals : m ≡ None → (r : Measures) → r ≡ measures false 0 0 → Whole r
+    pub returns_globals : m ≡ None → (r : Option Totals) → r ≡ None → Whole r
     returns_globals e r a = subst Whole (sym a) (globals-fail (sym is ∙ e))
 
     module _ (t : Bool) (ls : MeasuresLocals way p rows ws table globals used totals t) where
-      pub returns_locals : t ≡ false → (r : Measures) → r ≡ measures false 0 0 → Whole r
-      returns_locals e r a = subst Whole (sym a) (locals-fail t ls e)
+      pub returns_locals : t ≡ false → Whole None
+      returns_locals e = locals-fail t ls e
 
       module _ (d : Option ℕ) (ds : d ≡ measured_of the_glyphs) where
-        pub returns_glyphs : d ≡ None → (r : Measures) → r ≡ measures false 0 0 → Whole r
+        pub returns_glyphs : d ≡ None → (r : Option Totals) → r ≡ None → Whole r
         returns_glyphs e r a = subst Whole (sym a) (glyphs-fail t ls (sym ds ∙ e))
 
-        pub returns_all : Bounded m → Bounded d → (g c : ℕ) → m ≡ Some g → t ≡ true → d ≡ Some c → Whole (measures true g c)
+        pub returns_all : Bounded m → Bounded d → (g c : ℕ) → m ≡ Some g → t ≡ true → d ≡ Some c → Whole (Some (totals_of g c))
         returns_all few short g c e u v = all-measured t ls g c (sym is ∙ e) u (sym ds ∙ v) (subst Bounded e few) (subst Bounded v short)
 
 -- what measuring asks does not name the way
-pub by_way : (way : Way) (b : List ℕ) (o : Order) (used ws : List ℕ) (how : Manner) (table : List ℕ) (rows : List Row)
+pub by_way : (way : Way) (b : List ℕ) (o : Order) (used ws : List ℕ) (how : Manner) (table : List Ranks) (rows : List Row)
     → MeasureIn b o used ws how table rows → MeasureIn b o used ws (by_way_lem way how) table rows
 by_way way b o used ws how table rows h =
     let g = h.glyphs in
@@ -143,7 +140,7 @@ by_way way b o used ws how table rows h =
     }
 
 -- nor what a window of the kept glyphs holds
-by_window : (b : List ℕ) (o : Order) (held : Held) (used ws : List ℕ) (how : Manner) (table : List ℕ) (rows : List Row)
+by_window : (b : List ℕ) (o : Order) (held : Held) (used ws : List ℕ) (how : Manner) (table : List Ranks) (rows : List Row)
     → MeasureIn b o used ws how table rows → MeasureIn b (record { f = o.f; count = o.count; held = held }) used ws how table rows
 by_window b o held used ws how table rows h =
     let g = h.glyphs in
@@ -156,7 +153,7 @@ by_window b o held used ws how table rows h =
     }
 
 -- so it is there for another way, after the window was moved
-pub measured_again : (way : Way) (old new : Kept) → Stays old new → (used : List ℕ) (how : Manner) (table : List ℕ) (rows : List Row)
+pub measured_again : (way : Way) (old new : Kept) → Stays old new → (used : List ℕ) (how : Manner) (table : List Ranks) (rows : List Row)
     → MeasureIn old.font.now old.o used old.words.now how table rows → MeasureIn new.font.now new.o used new.words.now (by_way_lem way how) table rows
 measured_again way old new s used how table rows h =
     let q = by_way_lem way how in
@@ -167,7 +164,7 @@ measured_again way old new s used how table rows h =
     subst (λ (ws : List ℕ). MeasureIn new.font.now new.o used ws q table rows) (sym s.words) z
 
 -- what was measured after the window was moved
-pub measured_stays : (old new : Kept) → Stays old new → (way : Way) (rows : List Row) (used table : List ℕ) (globals : Ranks) (totals : List ℕ) (r : Measures)
+pub measured_stays : (old new : Kept) → Stays old new → (way : Way) (rows : List Row) (used : List ℕ) (table : List Ranks) (globals : Ranks) (totals : List ℕ) (r : Option Totals)
     → MeasuresAll way (program_of new.font.now new.o.f) rows new.words.now used table globals (kept_glyphs new) totals r
     → MeasuresAll way (program_of old.font.now old.o.f) rows old.words.now used table globals (kept_glyphs old) totals r
 measured_stays old new s way rows used table globals totals r m =

@@ -1,8 +1,9 @@
 -- Laws of the plan: the way by what was measured; where nothing is renumbered, no part fails.
-use Rattle.std.specs.Prelude.{ℕ, ◌≡◌, refl, Bool, true, false, List, [], ◌∷◌, Option}
+use Rattle.std.specs.Prelude.{ℕ, ◌≡◌, refl, Bool, true, false, List, [], ◌∷◌, Option, None, Some, unwrap_or}
 use Rattle.std.proofs.Common.{sym, ap, ◌∙◌, subst}
 use Rattle.octets.specs.Pick.{pick}
 use Rattle.unfold.specs.Unfold.{Row}
+use Rattle.prune.specs.StepLaws.{zero_one}
 use Rattle.cff.specs.Font.{Program}
 use Rattle.renumber.specs.declared.Ranks.{Ranks}
 use Rattle.bodies.specs.Ways.{holds}
@@ -11,10 +12,9 @@ use Rattle.bodies.specs.Pruning.{all_hold}
 use Rattle.bodies.specs.WaysLaws.{holds-each}
 use Rattle.fds.specs.Locals.{fds_in}
 use Rattle.fds.specs.NewLocals.{locals_by}
-use Rattle.plan.specs.Sizes.{first_way, way_by, glyphs_by, all_made, MeasuresAll, Plans}
-use Rattle.plan.specs.declared.sizes.Measures.{Measures}
+use Rattle.plan.specs.Sizes.{first_way, way_by, glyphs_by, all_made, Totaled, MeasuresAll, Plans}
+use Rattle.plan.specs.declared.sizes.Totals.{Totals}
 use Rattle.plan.specs.declared.Plan.{Plan}
-use Rattle.plan.specs.MeasureLaws.{measures}
 use Rattle.subset.specs.declared.Way.{Way}
 use Rattle.subset.specs.declared.Way.TheVariants.{Renumbered, Stubbed, Copied}
 
@@ -38,8 +38,8 @@ module _ (traced all : Bool) where
   pub first-stubbed : traced ≡ true → all ≡ false → Stubbed ≡ first_way traced all
   first-stubbed e a = sym (ap (λ (t : Bool). pick t (pick all Renumbered Stubbed) Copied) e ∙ ap (λ (t : Bool). pick t Renumbered Stubbed) a)
 
-module _ (p : Program) (rows : List Row) (ws used table : List ℕ) (globals : Ranks) (order : List ℕ) where
-  abbrev Sized : Way → List ℕ → Measures → Type 0
+module _ (p : Program) (rows : List Row) (ws used : List ℕ) (table : List Ranks) (globals : Ranks) (order : List ℕ) where
+  abbrev Sized : Way → List ℕ → Option Totals → Type 0
   Sized way totals m = MeasuresAll way p rows ws used table globals order totals m
 
   -- the other ways hold
@@ -57,18 +57,10 @@ module _ (p : Program) (rows : List Row) (ws used table : List ℕ) (globals : R
       ∙ holds-each (charstring_of Copied rows p.fds ws table globals p.charstrings) order
       ∙ hold_all (charstring_of Copied rows p.fds ws table globals p.charstrings) (λ g. refl) order
 
-  -- a measure that holds
-  held : (way : Way) (totals : List ℕ) (m : Measures) → m.all ≡ true → Sized way totals m → Sized way totals (measures true m.globals m.glyphs)
-  held way totals m e s =
-      record {
-        told = sym e ∙ s.told;
-        of_globals = λ z. s.of_globals e;
-        of_locals = λ z. s.of_locals e;
-        of_glyphs = λ z. s.of_glyphs e;
-        few_globals = s.few_globals;
-        few_locals = λ z. s.few_locals e;
-        few_glyphs = s.few_glyphs;
-      }
+  -- stubs are measured, whatever stands for a failure
+  stubs_measured : (totals : List ℕ) (m : Option Totals) → Sized Stubbed totals m → (d : Totals) → Totaled Stubbed p rows ws used table globals order totals (unwrap_or m d)
+  stubs_measured totals None s d = absurd (zero_one (let y : ◌≡◌ {A = Bool} false true = s.told ∙ stubs_made in cc))
+  stubs_measured totals (Some t) s d = s.sums t refl
 
   abbrev made : Way → Bool
   made way = all_made way p rows ws used table globals order
@@ -89,21 +81,21 @@ module _ (p : Program) (rows : List Row) (ws used table : List ℕ) (globals : R
     Whole totals r = Plans p rows ws used table globals order way totals r
 
     -- no part fails by the way that was tried first
-    pub returns_first : (totals : List ℕ) (m : Measures) → Sized way totals m → m.all ≡ true
-        → (r : Plan) → r ≡ planned way m.globals m.glyphs → Whole totals r
-    returns_first totals m s e r is =
+    pub returns_first : (totals : List ℕ) (m : Option Totals) → Sized way totals m → (t : Totals) → m ≡ Some t
+        → (r : Plan) → r ≡ planned way t.globals t.glyphs → Whole totals r
+    returns_first totals m s t e r is =
         subst (Whole totals) (sym is)
         (record {
-          is = sym (ap (λ (b : Bool). pick b way Stubbed) (sym s.told ∙ e));
-          sizes = held way totals m e s;
+          is = sym (ap (λ (b : Bool). pick b way Stubbed) (sym s.told ∙ ap holds e));
+          sizes = s.sums t e;
         })
 
     -- a part fails by it
-    pub returns_stubbed : (mid : List ℕ) (f : Measures) → Sized way mid f → f.all ≡ false → (totals : List ℕ) (m : Measures) → Sized Stubbed totals m
-        → (r : Plan) → r ≡ planned Stubbed m.globals m.glyphs → Whole totals r
-    returns_stubbed mid f z e totals m s r is =
+    pub returns_stubbed : (mid : List ℕ) (f : Option Totals) → Sized way mid f → f ≡ None → (totals : List ℕ) (m : Option Totals) → Sized Stubbed totals m
+        → (d t : Totals) → t ≡ unwrap_or m d → (r : Plan) → r ≡ planned Stubbed t.globals t.glyphs → Whole totals r
+    returns_stubbed mid f z e totals m s d t u r is =
         subst (Whole totals) (sym is)
         (record {
-          is = sym (ap (λ (b : Bool). pick b way Stubbed) (sym z.told ∙ e));
-          sizes = held Stubbed totals m (s.told ∙ stubs_made) s;
+          is = sym (ap (λ (b : Bool). pick b way Stubbed) (sym z.told ∙ ap holds e));
+          sizes = subst (Totaled Stubbed p rows ws used table globals order totals) (sym u) (stubs_measured totals m s d);
         })

@@ -22,7 +22,7 @@ pub record Stands (ws : List ℕ) (q : Ranks) (set : ℕ → Bool) (n : ℕ) : T
   pub high : q.high ≡ high_sums set q.count
 
 -- the words hold the bits of the globals, and of the locals of each FD in use where the table tells
-pub record AllRanked (p : Program) (rows : List Row) (used ws : List ℕ) (globals : Ranks) (table : List ℕ) : Type 0 where
+pub record AllRanked (p : Program) (rows : List Row) (used ws : List ℕ) (globals : Ranks) (table : List Ranks) : Type 0 where
   pub global_ranks : Stands ws globals (global_set rows) (length p.globals)
   pub local_ranks : (f : ℕ) → f < 256 → in_use_lem used f ≡ true → Stands ws (ranks_in table f) (local_set rows f) (length (locals_of p f))
 
@@ -39,7 +39,7 @@ module _ (p : Program) (rows : List Row) where
   every_numbered fs = pick globals_numbered (all_numbered p rows fs) false
 
 -- what ranking leaves: the bits in the words from behind those of the glyphs on, all else as it was; and whether the record has no other number
-pub record RanksAll (p : Program) (rows : List Row) (used : List ℕ) (old new table : List ℕ) (r : RankedAll) : Type 0 where
+pub record RanksAll (p : Program) (rows : List Row) (used : List ℕ) (old new : List ℕ) (table : List Ranks) (r : RankedAll) : Type 0 where
   pub words : new ≡ put old (words_for (length p.charstrings)) (all_bits p rows used)
   pub ranked : AllRanked p rows used new r.globals table
   pub told : r.all ≡ every_numbered p rows (fds_in used)

@@ -1,5 +1,5 @@
 -- Laws of ranking all subroutines: first the globals, then the locals of the FDs in use.
-use Rattle.std.specs.Prelude.{ℕ, zero, suc, ◌+◌, ◌-◌, ◌≤◌, ◌<◌, ◌≡◌, Bool, true, false, eqb, length, take, drop, get_or}
+use Rattle.std.specs.Prelude.{ℕ, zero, suc, ◌+◌, ◌-◌, ◌≤◌, ◌<◌, ◌≡◌, Bool, true, false, eqb, length, take, drop}
 use Rattle.std.proofs.Math.Path.{refl, sym, ap}
 use Rattle.std.proofs.Common.{◌∙◌, arith, length-append, take_at, drop_at, drop-drop}
 use mathlib.Core.List.{List, [], ◌∷◌, ◌++◌, append-nil, append_assoc}
@@ -76,7 +76,7 @@ part-behind old at xs ys zs place count h e n =
 
 -- ---- what ranking leaves
 
-abbrev answer : Ranks → Bool → RankedAll
+abbrev pub answer : Ranks → Bool → RankedAll
 answer q t = record { globals = q; all = t }
 
 bits_long : (set : ℕ → Bool) (count : ℕ) → length (bits_of set count) ≡ words_for count
@@ -90,7 +90,7 @@ locals-room rows old mid at count n more e h w =
     let k : at + length (bits_of (global_set rows) count) ≤ length old = omega arith in
     omega (arith, ap length w, put-length old at (bits_of (global_set rows) count) k)
 
-module _ (p : Program) (rows : List Row) (used old mid new table : List ℕ) (n count words : ℕ) (glyphs : n ≡ words_for (length p.charstrings))
+module _ (p : Program) (rows : List Row) (used old mid new : List ℕ) (table : List Ranks) (n count words : ℕ) (glyphs : n ≡ words_for (length p.charstrings))
     (many : count ≡ length p.globals) (wide : words ≡ words_for count) (room : n + words_for count + locals_words p.privates ≤ length old)
     (r : code.Ranked) (w : mid ≡ put old n (bits_of (global_set rows) count)) (is : r ≡ ranked_of (global_set rows) count) where
   module _ (all both : Bool) (h : RanksLocals p rows used (n + words) mid new table all) (b : both ≡ pick r.all all false) where
@@ -128,21 +128,21 @@ module _ (p : Program) (rows : List Row) (used old mid new table : List ℕ) (n 
     locals_stand : (f : ℕ) → f < 256 → in_use_lem used f ≡ true → Stands new (ranks_in table f) (local_set rows f) (length (locals_of p f))
     locals_stand f k u =
         let t = h.tables f k u in
-        let place : get_or table f 0 ≡ n + words + locals_for p (used_below used f) = ap (λ (q : Ranks). q.at) t in
-        let c : get_or table (256 + f) 0 ≡ length (locals_of p f) = ap (λ (q : Ranks). q.count) t in
-        let v : words_for (get_or table (256 + f) 0) ≡ words_for (length (locals_of p f)) = ap words_for c in
+        let place : (ranks_in table f).at ≡ n + words + locals_for p (used_below used f) = ap (λ (q : Ranks). q.at) t in
+        let c : (ranks_in table f).count ≡ length (locals_of p f) = ap (λ (q : Ranks). q.count) t in
+        let v : words_for (ranks_in table f).count ≡ words_for (length (locals_of p f)) = ap words_for c in
         let s = bits_split p rows used f k u in
         let front = bits_for p rows (used_below used f) in
         let e : new ≡ put old n ((g ++ front) ++ (fd_bits p rows f ++ s.0))
         = whole ∙ ap (λ (l : List ℕ). put old n (g ++ l)) s.1 ∙ ap (put old n) (sym (append_assoc g front (fd_bits p rows f ++ s.0))) in
-        let at : get_or table f 0 ≡ n + length (g ++ front)
+        let at : (ranks_in table f).at ≡ n + length (g ++ front)
         = omega (arith, place, length-append g front, long, bits_length p rows (used_below used f)) in
-        let m : length (fd_bits p rows f) ≡ words_for (get_or table (256 + f) 0) = bits_long (local_set rows f) (length (locals_of p f)) ∙ sym v in
+        let m : length (fd_bits p rows f) ≡ words_for (ranks_in table f).count = bits_long (local_set rows f) (length (locals_of p f)) ∙ sym v in
         record {
           many = c;
           inside = omega (arith, place, v, new-length, locals-within p used f u);
-          words = ap (λ (ws : List ℕ). take (words_for (get_or table (256 + f) 0)) (drop (get_or table f 0) ws)) e
-              ∙ part-behind old n (g ++ front) (fd_bits p rows f) s.0 (get_or table f 0) (words_for (get_or table (256 + f) 0)) (omega arith) at m
+          words = ap (λ (ws : List ℕ). take (words_for (ranks_in table f).count) (drop (ranks_in table f).at ws)) e
+              ∙ part-behind old n (g ++ front) (fd_bits p rows f) s.0 (ranks_in table f).at (words_for (ranks_in table f).count) (omega arith) at m
               ∙ ap (bits_of (local_set rows f)) (sym c);
           reaches = ap (λ (q : Ranks). q.reached) t ∙ ap (count_below (local_set rows f)) (sym c);
           low = ap (λ (q : Ranks). q.low) t ∙ ap (low_sums (local_set rows f)) (sym c);

@@ -60,7 +60,7 @@ unnumbered_fails p rows used order e = renumbers-parts p rows used order ∙ go 
         ap (λ (t : Bool). pick (holds (pick t (each (λ k. renumbered_body rows (calls_across p rows used) (global k) (get_or p.globals k [])) (those (global_set rows) (length p.globals) 0)) None))
         (pick (all_hold (renumbered_locals p rows) used) (all_hold (renumbered_glyph p rows) order) false) false) n
 
-module _ (p : Program) (good : GoodProgram p) (rows : List Row) (narrow : Narrow rows) (used ws : List ℕ) (globals : Ranks) (table : List ℕ)
+module _ (p : Program) (good : GoodProgram p) (rows : List Row) (narrow : Narrow rows) (used ws : List ℕ) (globals : Ranks) (table : List Ranks)
     (h : AllRanked p rows used ws globals table) (order : List ℕ) (within : FdsUsed p used order) where
   -- an FD among those in use
   in_use : (f : ℕ) → is_in f (fds_in used) ≡ true → (f < 256) × (in_use_lem used f ≡ true)

@@ -5,6 +5,7 @@ ghost use Rattle.plan.specs.Alone.{measure_in_prop};
 
 use bodies::Manner;
 use order_window::Order;
+use renumber::Ranks;
 
 #[derive(Clone, Copy)]
 pub struct BodiesIn<'a> {
@@ -13,7 +14,7 @@ pub struct BodiesIn<'a> {
     pub font: &'a [u8],
     pub used: &'a [u32],
     pub words: &'a [u32],
-    pub table: &'a [usize],
+    pub table: &'a [Ranks],
     pub rows: &'a [u8],
     ghost asked: { MeasureIn font.now o used.now words.now how table.now (rows_of rows.now) } by { measure_in_prop font.now o used.now words.now how table.now (rows_of rows.now) },
 }

@@ -15,10 +15,11 @@ ghost use Rattle.plan.specs.Ranked.{RanksAll};
 ghost use Rattle.order_window.specs.Stays.{kept_glyphs, Stays};
 ghost use Rattle.plan.specs.Sizes.{MeasureIn, first_way, Plans};
 
-use crate::sizes::{Measures, measure};
+use crate::sizes::{Totals, measure};
 use bodies::Manner;
 use fds::in_use::InUse;
 use order_window::window::Kept;
+use reach::Subrs;
 use renumber::Ranks;
 use subset::Way;
 
@@ -34,19 +35,19 @@ pub fn rank_all(
     fds: &InUse<'_, '_>,
     rows: &[u8],
     words: &mut [u32],
-    table: &mut [usize],
+    table: &mut [Ranks],
 ) -> RankedAll
     requires { (words_for fds.now.font.f.charstrings.count + words_for fds.now.font.f.globals.count + locals_words (program fds.now.font).privates
-        ≤ length words.old) × (1280 ≤ length table.old) }
+        ≤ length words.old) × (256 ≤ length table.old) }
     ensures { RanksAll (program fds.now.font) (rows_of rows.now) fds.now.used.now words.old words.new table.new result }
 {
     let f = fds.font.f;
     let at = bits::words_for(f.charstrings.count);
     let count = f.globals.count;
-    let r = reach::ranks::rank_reached(rows, true, 0, &mut *words, at, count);
+    let r = reach::ranks::rank_reached(rows, Subrs::Global, &mut *words, at, count);
     let behind = at + bits::words_for(count);
     let rest = fds::rank_locals(fds, rows, words, behind, table);
-    let all = fds::both(r.all, rest);
+    let all = r.all && rest;
     let globals = Ranks {
         at,
         count,
@@ -66,13 +67,13 @@ pub struct Plan {
 }
 
 // The plan by a way and what was measured by it.
-fn planned(way: Way, m: Measures) -> Plan
-    ensures { result ≡ record { way = way; globals_total = m.globals; glyphs_total = m.glyphs } }
+fn planned(way: Way, t: Totals) -> Plan
+    ensures { result ≡ record { way = way; globals_total = t.globals; glyphs_total = t.glyphs } }
 {
     Plan {
         way,
-        globals_total: m.globals,
-        glyphs_total: m.glyphs,
+        globals_total: t.globals,
+        glyphs_total: t.glyphs,
     }
 }
 
@@ -89,12 +90,18 @@ pub fn first_way(traced: bool, all: bool) -> Way
     Way::Stubbed
 }
 
+// What is answered where stubs fail, which they never do: it is never used.
+const NOTHING: Totals = Totals {
+    globals: 0,
+    glyphs: 0,
+};
+
 // Finds the way, the first of which is given, and measures all bodies by it: those of the locals of each FD in use in a table.
 pub fn plan_bodies(
     kept: &mut Kept<'_>,
     how: Manner,
     used: &[u32],
-    table: &[usize],
+    table: &[Ranks],
     rows: &[u8],
     totals: &mut [usize],
 ) -> Plan
@@ -103,8 +110,8 @@ pub fn plan_bodies(
         how.way totals.new result) × Stays kept.old kept.new }
 {
     let m = measure(&mut *kept, how, used, table, rows, &mut *totals);
-    if m.all {
-        return planned(how.way, m);
+    if let Some(t) = m {
+        return planned(how.way, t);
     }
     let stubbed = Manner {
         way: Way::Stubbed,
@@ -112,5 +119,5 @@ pub fn plan_bodies(
         rising: how.rising,
     };
     let s = measure(kept, stubbed, used, table, rows, totals);
-    planned(Way::Stubbed, s)
+    planned(Way::Stubbed, s.unwrap_or(NOTHING))
 }

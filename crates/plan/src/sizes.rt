@@ -1,5 +1,5 @@
 // The sizes of all bodies by the way.
-ghost use Rattle.std.specs.Prelude.{◌≡◌, false, ◌≤◌, length};
+ghost use Rattle.std.specs.Prelude.{◌≡◌, ◌≤◌, length};
 ghost use Rattle.record.specs.Record.{rows_of};
 ghost use Rattle.cff.specs.Reads.{program_of};
 ghost use Rattle.bodies.specs.Ways.{measured_of};
@@ -11,25 +11,25 @@ ghost use Rattle.plan.specs.Held.{program, globals};
 ghost use Rattle.plan.specs.Sizes.{across_by, MeasureIn, MeasuresAll};
 
 use crate::bodies_in::BodiesIn;
-use bodies::Manner;
 use bodies::subroutines::Subroutines;
-use bodies::subrs::{Source, Subrs};
+use bodies::subrs::Source;
+use bodies::{Manner, NO_RANKS};
 use cff::loaded::Loaded;
 use fds::table::FdTable;
 use order_window::window::Kept;
+use reach::Subrs;
 use renumber::Ranks;
 
-// Whether no part fails, and then the bytes of the globals and of the charstrings.
+// The bytes of the globals and of the charstrings.
 #[derive(Clone, Copy)]
-pub struct Measures {
-    pub all: bool,
+pub struct Totals {
     pub globals: usize,
     pub glyphs: usize,
 }
 
 // The bits by which a global subroutine calls local ones: those of the FD in use where it is the only one, else none.
-pub fn across(used: &[u32], table: &[usize]) -> Ranks
-    requires { (256 ≤ length used.now) × (1280 ≤ length table.now) }
+pub fn across(used: &[u32], table: &[Ranks]) -> Ranks
+    requires { (256 ≤ length used.now) × (256 ≤ length table.now) }
     ensures { result ≡ across_by table.now (fds_in used.now) }
 {
     let mut count: usize = 0;
@@ -41,26 +41,9 @@ pub fn across(used: &[u32], table: &[usize]) -> Ranks
         }
     }
     if count == 1 {
-        return bodies::ranks_in(table, last);
+        return table[last];
     }
-    Ranks {
-        at: 0,
-        count: 0,
-        reached: 0,
-        low: 0,
-        high: 0,
-    }
-}
-
-// A part fails.
-fn failed() -> Measures
-    ensures { result ≡ record { all = false; globals = 0; glyphs = 0 } }
-{
-    Measures {
-        all: false,
-        globals: 0,
-        glyphs: 0,
-    }
+    NO_RANKS
 }
 
 // The bytes of the globals by the way, or that their renumbering fails.
@@ -104,15 +87,15 @@ fn locals_totals(b: &BodiesIn<'_>, sums: &mut [usize]) -> bool
     fds::totals::measure_locals(b.how, &fds, b.words, b.rows, sums)
 }
 
-// The bytes of all bodies by the way: those of the locals of each FD in use in a table.
+// The bytes of all bodies by the way, the bytes of the locals of each FD in use in a table; or that a part fails.
 pub fn measure(
     kept: &mut Kept<'_>,
     how: Manner,
     used: &[u32],
-    table: &[usize],
+    table: &[Ranks],
     rows: &[u8],
     sums: &mut [usize],
-) -> Measures
+) -> Option<Totals>
     requires { (MeasureIn kept.old.font.now kept.old.o used.now kept.old.words.now how table.now (rows_of rows.now)) × (256 ≤ length sums.old) }
     ensures { (MeasuresAll how.way (program_of kept.old.font.now kept.old.o.f) (rows_of rows.now) kept.old.words.now used.now table.now how.globals
         (kept_glyphs kept.old) sums.new result) × Stays kept.old kept.new }
@@ -126,21 +109,10 @@ pub fn measure(
         table,
         rows,
     };
-    match globals_total(&b) {
-        None => failed(),
-        Some(g) => {
-            if locals_totals(&b, sums) {
-                match glyph_bodies::charstrings_total(kept, how, table, rows) {
-                    None => failed(),
-                    Some(c) => Measures {
-                        all: true,
-                        globals: g,
-                        glyphs: c,
-                    },
-                }
-            } else {
-                failed()
-            }
-        }
+    let globals = globals_total(&b)?;
+    if !locals_totals(&b, sums) {
+        return None;
     }
+    let glyphs = glyph_bodies::charstrings_total(kept, how, table, rows)?;
+    Some(Totals { globals, glyphs })
 }

@@ -2,7 +2,7 @@
 use Rattle.std.specs.Prelude.{ℕ, zero, suc, ◌+◌, ◌*◌, ◌≤◌, ◌<◌, ◌≡◌, refl, List, [], ◌∷◌, ◌++◌, length, take, get_or}
 use Rattle.std.proofs.Common.{sym, ap, ◌∙◌, arith, length-append, length-take-le, get_or-take}
 use Rattle.std.proofs.Math.Seq.{take-length}
-use Rattle.octets.specs.Lists.{sum_of}
+use Rattle.std.proofs.lemmas.List.{take-take}
 use Rattle.dict.specs.Op.{font_matrix}
 use Rattle.dict_write.specs.Written.{copied_entry, private_entry}
 use Rattle.dict_write.specs.WriteLaws.{private-length}
@@ -10,45 +10,37 @@ use Rattle.index.specs.Write.{total}
 use Rattle.cff.specs.Font.{Program}
 use Rattle.subset.specs.Kept.{private_of}
 use Rattle.subset.specs.Subset.{matrix_of, private_dict, private_part, font_dict, font_dicts}
-use Rattle.private_dicts.specs.Privates.{matrices_by, dicts_by, font_dicts_by, Placed, sizes_of, lens_of}
+use Rattle.private_dicts.specs.Privates.{matrices_by, parts_len, dicts_by, font_dicts_by, no_part, Placed, parts_of}
+use Rattle.private_dicts.specs.declared.part.Part.{Part}
 
 no : ◌≡◌ {A = ℕ} 0 1 → ⊥
 no h = omega arith
 
 -- ---- over lists of the same length
 
-module _ (ms : List (List ℕ)) (ss ls : List ℕ) where
-  -- as many of each
-  pub record Even : Type 0 where
-    pub sized : length ss ≡ length ms
-    pub long : length ls ≡ length ms
-
-many : (ms : List (List ℕ)) (ss ls : List ℕ) (from : ℕ) → Even ms ss ls → length (dicts_by ms ss ls from) ≡ length ms
+many : (ms : List (List ℕ)) (qs : List Part) (from : ℕ) → length qs ≡ length ms → length (dicts_by ms qs from) ≡ length ms
 unfolding dicts_by
-many [] ss ls from h = refl
-many (m ∷ ms) [] ls from h = absurd (no (omega (arith, h)))
-many (m ∷ ms) (s ∷ ss) [] from h = absurd (no (omega (arith, h)))
-many (m ∷ ms) (s ∷ ss) (l ∷ ls) from h = ap suc (many ms ss ls (from + l) (record { sized = omega (arith, h); long = omega (arith, h) }))
+many [] qs from h = refl
+many (m ∷ ms) [] from h = absurd (no (omega arith))
+many (m ∷ ms) (q ∷ qs) from h = ap suc (many ms qs (from + q.len) (omega arith))
 
-long : (ms : List (List ℕ)) (ss ls : List ℕ) (from : ℕ) → Even ms ss ls → total (dicts_by ms ss ls from) ≡ total ms + 11 * length ms
+long : (ms : List (List ℕ)) (qs : List Part) (from : ℕ) → length qs ≡ length ms → total (dicts_by ms qs from) ≡ total ms + 11 * length ms
 unfolding dicts_by total
-long [] ss ls from h = refl
-long (m ∷ ms) [] ls from h = absurd (no (omega (arith, h)))
-long (m ∷ ms) (s ∷ ss) [] from h = absurd (no (omega (arith, h)))
-long (m ∷ ms) (s ∷ ss) (l ∷ ls) from h =
-    omega (arith, length-append m (private_entry s from), private-length s from, long ms ss ls (from + l) (record { sized = omega (arith, h); long = omega (arith, h) }))
+long [] qs from h = refl
+long (m ∷ ms) [] from h = absurd (no (omega arith))
+long (m ∷ ms) (q ∷ qs) from h =
+    omega (arith, length-append m (private_entry q.size from), private-length q.size from, long ms qs (from + q.len) (omega arith))
 
-at : (ms : List (List ℕ)) (ss ls : List ℕ) (from k : ℕ) → Even ms ss ls → k < length ms
-    → get_or (dicts_by ms ss ls from) k [] ≡ get_or ms k [] ++ private_entry (get_or ss k 0) (from + sum_of (take k ls))
-unfolding dicts_by sum_of
-at [] ss ls from k h q = absurd (no (omega arith))
-at (m ∷ ms) [] ls from k h q = absurd (no (omega (arith, h)))
-at (m ∷ ms) (s ∷ ss) [] from k h q = absurd (no (omega (arith, h)))
-at (m ∷ ms) (s ∷ ss) (l ∷ ls) from zero h q = let e : from ≡ from + 0 = omega arith in ap (λ (n : ℕ). m ++ private_entry s n) e
-at (m ∷ ms) (s ∷ ss) (l ∷ ls) from (suc k) h q =
-    let e : from + l + sum_of (take k ls) ≡ from + (l + sum_of (take k ls)) = omega arith in
-    at ms ss ls (from + l) k (record { sized = omega (arith, h); long = omega (arith, h) }) (omega arith)
-    ∙ ap (λ (n : ℕ). get_or ms k [] ++ private_entry (get_or ss k 0) n) e
+at : (ms : List (List ℕ)) (qs : List Part) (from k : ℕ) → length qs ≡ length ms → k < length ms
+    → get_or (dicts_by ms qs from) k [] ≡ get_or ms k [] ++ private_entry (get_or qs k no_part).size (from + parts_len (take k qs))
+unfolding dicts_by parts_len
+at [] qs from k h q = absurd (no (omega arith))
+at (m ∷ ms) [] from k h q = absurd (no (omega arith))
+at (m ∷ ms) (x ∷ qs) from zero h q = let e : from ≡ from + 0 = omega arith in ap (λ (n : ℕ). m ++ private_entry x.size n) e
+at (m ∷ ms) (x ∷ qs) from (suc k) h q =
+    let e : from + x.len + parts_len (take k qs) ≡ from + (x.len + parts_len (take k qs)) = omega arith in
+    at ms qs (from + x.len) k (omega arith) (omega arith)
+    ∙ ap (λ (n : ℕ). get_or ms k [] ++ private_entry (get_or qs k no_part).size n) e
 
 -- ---- the FontMatrix entries
 
@@ -85,73 +77,63 @@ matrices_none p fds = refl
 
 -- ---- the first so many
 
-take-take : (k n : ℕ) (l : List ℕ) → k ≤ n → take k (take n l) ≡ take k l
-take-take zero n l h = refl
-take-take (suc k) zero [] h = refl
-take-take (suc k) (suc n) [] h = refl
-take-take (suc k) zero (x ∷ l) h = absurd (no (omega arith))
-take-take (suc k) (suc n) (x ∷ l) h = ap (λ (t : List ℕ). x ∷ t) (take-take k n l (omega arith))
-
-pub sum-next : (l : List ℕ) (k : ℕ) → k < length l → sum_of (take (k + 1) l) ≡ sum_of (take k l) + get_or l k 0
-unfolding sum_of
-sum-next [] k h = absurd (no (omega arith))
-sum-next (x ∷ l) zero h = omega arith
-sum-next (x ∷ l) (suc k) h =
+pub parts-next : (qs : List Part) (k : ℕ) → k < length qs → parts_len (take (k + 1) qs) ≡ parts_len (take k qs) + (get_or qs k no_part).len
+unfolding parts_len
+parts-next [] k h = absurd (no (omega arith))
+parts-next (x ∷ qs) zero h = omega arith
+parts-next (x ∷ qs) (suc k) h =
     let e : suc k + 1 ≡ suc (k + 1) = omega arith in
-    let f : sum_of (take (suc k + 1) (x ∷ l)) ≡ x + sum_of (take (k + 1) l) = ap (λ (n : ℕ). sum_of (take n (x ∷ l))) e in
-    omega (arith, sum-next l k (omega arith))
+    let f : parts_len (take (suc k + 1) (x ∷ qs)) ≡ x.len + parts_len (take (k + 1) qs) = ap (λ (n : ℕ). parts_len (take n (x ∷ qs))) e in
+    omega (arith, parts-next qs k (omega arith))
 
 -- no part is before the first
-pub start-place : (l : List ℕ) (from : ℕ) → from ≡ from + sum_of (take 0 l)
-unfolding sum_of
-start-place l from = omega arith
+pub start-place : (qs : List Part) (from : ℕ) → from ≡ from + parts_len (take 0 qs)
+unfolding parts_len
+start-place qs from = omega arith
 
-pub sum-part : (l : List ℕ) (k n : ℕ) → k ≤ n → sum_of (take k l) ≤ sum_of (take n l)
-unfolding sum_of
-sum-part l zero n h = omega arith
-sum-part [] (suc k) zero h = absurd (no (omega arith))
-sum-part [] (suc k) (suc n) h = omega arith
-sum-part (x ∷ l) (suc k) zero h = absurd (no (omega arith))
-sum-part (x ∷ l) (suc k) (suc n) h = omega (arith, sum-part l k n (omega arith))
+pub parts-part : (qs : List Part) (k n : ℕ) → k ≤ n → parts_len (take k qs) ≤ parts_len (take n qs)
+unfolding parts_len
+parts-part qs zero n h = omega arith
+parts-part [] (suc k) zero h = absurd (no (omega arith))
+parts-part [] (suc k) (suc n) h = omega arith
+parts-part (x ∷ qs) (suc k) zero h = absurd (no (omega arith))
+parts-part (x ∷ qs) (suc k) (suc n) h = omega (arith, parts-part qs k n (omega arith))
 
-module _ (f : Program) (fds sizes lens : List ℕ) (from : ℕ) (p : Placed f fds sizes lens from) where
-  even : Even (matrices_by f fds) (take (length fds) sizes) (take (length fds) lens)
-  even =
-      record {
-        sized = length-take-le (length fds) sizes p.sized ∙ sym (matrices_length f fds);
-        long = length-take-le (length fds) lens p.long ∙ sym (matrices_length f fds);
-      }
+module _ (f : Program) (fds : List ℕ) (parts : List Part) (from : ℕ) (p : Placed f fds parts from) where
+  even : length (take (length fds) parts) ≡ length (matrices_by f fds)
+  even = length-take-le (length fds) parts p.long ∙ sym (matrices_length f fds)
 
-  pub dicts_many : length fds ≡ length (font_dicts_by f fds sizes lens from)
-  dicts_many = sym (many (matrices_by f fds) (take (length fds) sizes) (take (length fds) lens) from even ∙ matrices_length f fds)
+  pub dicts_many : length fds ≡ length (font_dicts_by f fds parts from)
+  dicts_many = sym (many (matrices_by f fds) (take (length fds) parts) from even ∙ matrices_length f fds)
 
-  pub dicts-total : (m : ℕ) → m ≡ total (matrices_by f fds) → m + 11 * length fds ≡ total (font_dicts_by f fds sizes lens from)
+  pub dicts-total : (m : ℕ) → m ≡ total (matrices_by f fds) → m + 11 * length fds ≡ total (font_dicts_by f fds parts from)
   dicts-total m e =
-      sym (long (matrices_by f fds) (take (length fds) sizes) (take (length fds) lens) from even
+      sym (long (matrices_by f fds) (take (length fds) parts) from even
       ∙ ap (λ (n : ℕ). total (matrices_by f fds) + 11 * n) (matrices_length f fds) ∙ ap (λ (n : ℕ). n + 11 * length fds) (sym e))
 
-  pub dicts-at : (k place : ℕ) → k < length fds → place ≡ from + sum_of (take k lens)
-      → copied_entry font_matrix (matrix_of f (get_or fds k 0)) ++ private_entry (get_or sizes k 0) place ≡ get_or (font_dicts_by f fds sizes lens from) k []
+  pub dicts-at : (k place : ℕ) → k < length fds → place ≡ from + parts_len (take k parts)
+      → copied_entry font_matrix (matrix_of f (get_or fds k 0)) ++ private_entry (get_or parts k no_part).size place ≡ get_or (font_dicts_by f fds parts from) k []
   dicts-at k place h e =
       let count = length fds in
-      sym (at (matrices_by f fds) (take count sizes) (take count lens) from k even (omega (arith, h, matrices_length f fds))
-      ∙ ap (λ (l : List ℕ). l ++ private_entry (get_or (take count sizes) k 0) (from + sum_of (take k (take count lens)))) (matrix_at f fds k h)
-      ∙ ap (λ (n : ℕ). copied_entry font_matrix (matrix_of f (get_or fds k 0)) ++ private_entry n (from + sum_of (take k (take count lens)))) (get_or-take count sizes k 0 h)
-      ∙ ap (λ (l : List ℕ). copied_entry font_matrix (matrix_of f (get_or fds k 0)) ++ private_entry (get_or sizes k 0) (from + sum_of l)) (take-take k count lens (omega arith))
-      ∙ ap (λ (n : ℕ). copied_entry font_matrix (matrix_of f (get_or fds k 0)) ++ private_entry (get_or sizes k 0) n) (sym e))
+      sym (at (matrices_by f fds) (take count parts) from k even (omega (arith, h, matrices_length f fds))
+      ∙ ap (λ (l : List ℕ). l ++ private_entry (get_or (take count parts) k no_part).size (from + parts_len (take k (take count parts)))) (matrix_at f fds k h)
+      ∙ ap (λ (q : Part). copied_entry font_matrix (matrix_of f (get_or fds k 0)) ++ private_entry q.size (from + parts_len (take k (take count parts)))) (get_or-take count parts k no_part h)
+      ∙ ap (λ (qs : List Part). copied_entry font_matrix (matrix_of f (get_or fds k 0)) ++ private_entry (get_or parts k no_part).size (from + parts_len qs)) (take-take k count parts (omega arith))
+      ∙ ap (λ (n : ℕ). copied_entry font_matrix (matrix_of f (get_or fds k 0)) ++ private_entry (get_or parts k no_part).size n) (sym e))
 
   -- the places are held by the five-byte form
-  pub place-small : (k place : ℕ) → k ≤ length fds → place ≡ from + sum_of (take k lens) → place < 2147483648
-  place-small k place h e = omega (arith, p.ends, sum-part lens k (length fds) h)
+  pub place-small : (k place : ℕ) → k ≤ length fds → place ≡ from + parts_len (take k parts) → place < 2147483648
+  place-small k place h e = omega (arith, p.ends, parts-part parts k (length fds) h)
 
-  pub place-next : (k place : ℕ) → k < length fds → place ≡ from + sum_of (take k lens) → place + get_or lens k 0 ≡ from + sum_of (take (k + 1) lens)
-  place-next k place h e = omega (arith, sum-next lens k (omega (arith, p.long)))
+  pub place-next : (k place : ℕ) → k < length fds → place ≡ from + parts_len (take k parts)
+      → place + (get_or parts k no_part).len ≡ from + parts_len (take (k + 1) parts)
+  place-next k place h e = omega (arith, parts-next parts k (omega (arith, p.long)))
 
 -- ---- those of the subset
 
 pub font-dicts_are : (p : Program) (from : ℕ) (used : List ℕ) (lss : List (List (List ℕ)))
-    → font_dicts p from used lss ≡ dicts_by (matrices_by p used) (sizes_of p used lss) (lens_of p used lss) from
-unfolding font_dicts dicts_by matrices_by sizes_of lens_of
+    → font_dicts p from used lss ≡ dicts_by (matrices_by p used) (parts_of p used lss) from
+unfolding font_dicts dicts_by matrices_by parts_of
 font-dicts_are p from [] lss = refl
 font-dicts_are p from (f ∷ fs) [] = refl
 font-dicts_are p from (f ∷ fs) (ls ∷ lss) =
@@ -159,6 +141,6 @@ font-dicts_are p from (f ∷ fs) (ls ∷ lss) =
     (font-dicts_are p (from + length (private_part (private_of p f) ls)) fs lss)
 
 -- their INDEX is as long wherever they stand
-pub dicts_long : (ms : List (List ℕ)) (ss ls : List ℕ) (from : ℕ) → Even ms ss ls
-    → (length (dicts_by ms ss ls from) ≡ length ms) × (total (dicts_by ms ss ls from) ≡ total ms + 11 * length ms)
-dicts_long ms ss ls from h = (many ms ss ls from h, long ms ss ls from h)
+pub dicts_long : (ms : List (List ℕ)) (qs : List Part) (from : ℕ) → length qs ≡ length ms
+    → (length (dicts_by ms qs from) ≡ length ms) × (total (dicts_by ms qs from) ≡ total ms + 11 * length ms)
+dicts_long ms qs from h = (many ms qs from h, long ms qs from h)

@@ -4,6 +4,7 @@
 pub mod fd;
 pub mod fd_array;
 pub mod held;
+pub mod part;
 
 ghost use Rattle.std.specs.Prelude.{◌≡◌, ◌++◌, ℕ, ◌+◌, ◌≤◌, ◌<◌, length, get_or, Ok};
 ghost use Rattle.octets.specs.Out.{Writes};
@@ -23,6 +24,7 @@ ghost use Rattle.private_dicts.specs.Held.{entries};
 use crate::fd::Fd;
 use crate::fd_array::FdArray;
 use crate::held::PrivateDict;
+use crate::part::Part;
 use cff::private::PrivateAt;
 use cff::table::Table;
 use dict::nowhere;
@@ -138,18 +140,11 @@ fn put_font_dict(d: &[u8], size: usize, place: usize, out: &mut Out<'_>)
     put_private_entry(size, place, out)
 }
 
-// The FD INDEX: the Font DICTs of all FDs, for Private DICTs of these sizes, in parts of these lengths that stand one behind the other, the first
-// at `from`.
-pub fn put_font_dicts(
-    a: &FdArray<'_, '_>,
-    sizes: &[usize],
-    lens: &[usize],
-    from: usize,
-    out: &mut Out<'_>,
-)
-    requires { (Placed (program a.now.font) a.now.fds.now sizes.now lens.now from) × (out.old.at < 4294967296)
-        × (out.old.at + length (index_bytes (font_dicts_by (program a.now.font) a.now.fds.now sizes.now lens.now from)) ≤ length out.old.bytes.now) }
-    ensures { Writes out.old (index_bytes (font_dicts_by (program a.now.font) a.now.fds.now sizes.now lens.now from)) out.new }
+// The FD INDEX: the Font DICTs of all FDs, for these parts, which stand one behind the other, the first at `from`.
+pub fn put_font_dicts(a: &FdArray<'_, '_>, parts: &[Part], from: usize, out: &mut Out<'_>)
+    requires { (Placed (program a.now.font) a.now.fds.now parts.now from) × (out.old.at < 4294967296)
+        × (out.old.at + length (index_bytes (font_dicts_by (program a.now.font) a.now.fds.now parts.now from)) ≤ length out.old.bytes.now) }
+    ensures { Writes out.old (index_bytes (font_dicts_by (program a.now.font) a.now.fds.now parts.now from)) out.new }
 {
     let count = a.fds.len();
     let total = matrices_len(a) + 11 * count;
@@ -158,8 +153,9 @@ pub fn put_font_dicts(
     out.at = ix.base + 1;
     let mut place = from;
     for k in 0..count {
-        put_font_dict(font_dict(a, k), sizes[k], place, &mut *out);
+        let part = parts[k];
+        put_font_dict(font_dict(a, k), part.size, place, &mut *out);
         index::put_end(&mut *out, ix, k);
-        place += lens[k];
+        place += part.len;
     }
 }

@@ -8,9 +8,10 @@ use Rattle.charstring.specs.declared.MaskLen.{MaskLen}
 use Rattle.charstring.specs.declared.MaskLen.TheVariants.{Given}
 use Rattle.unfold.specs.Unfold.{Row, Site, masked}
 use Rattle.record.specs.Record.{at_place, of_body, disagrees, given_in, two_lengths_lem, rows_of}
-use Rattle.reach.specs.declared.Site as code
-use Rattle.reach.specs.declared.Site.TheVariants.{Glyph, Local, Global}
-use Rattle.reach.specs.Reach.{Fits, site_of, key_of_lem}
+use Rattle.unfold.specs.declared.Site as code
+use Rattle.unfold.specs.declared.Site.TheVariants.{Glyph, Local, Global}
+use Rattle.unfold.specs.Sites.{site_of}
+use Rattle.reach.specs.Reach.{Fits, key_of_lem}
 use Rattle.reach.specs.Masks.{body_of_lem, len_at, other_len_lem, two_of}
 use Rattle.reach.specs.RowLaws.{AllFit, all_fit}
 use Rattle.reach.specs.Cases.{by_number}

@@ -1,8 +1,9 @@
 -- Laws of the loops that set bits, and that mark and rank: what is left to do gives what the whole gives.
-use Rattle.std.specs.Prelude.{ℕ, suc, ◌+◌, ◌/◌, ◌≤◌, ◌<◌, ◌≡◌, refl, ltb, eqb, set, replicate}
+use Rattle.std.specs.Prelude.{ℕ, zero, suc, ◌+◌, ◌/◌, ◌≤◌, ◌<◌, ◌≡◌, refl, Bool, true, false, ltb, eqb, set, replicate}
 use Rattle.std.proofs.Math.Path.{sym, ap}
-use Rattle.std.proofs.Common.{◌∙◌, arith, take-suc-set, drop-set-lt}
+use Rattle.std.proofs.Common.{◌∙◌, arith, ne_eqb, take-suc-set, drop-set-lt}
 use mathlib.Core.List.{List, [], ◌∷◌, ◌++◌, append_assoc, append-nil}
+use Rattle.std.proofs.Math.Nat.{zero-add}
 use Rattle.std.proofs.Math.Numerals.{add-one}
 use Rattle.std.proofs.Math.ListN.{length, take, drop, get_or, length-set, drop_of_length-le}
 use Rattle.std.proofs.lemmas.List.{replicate-append-replicate}
@@ -28,58 +29,63 @@ mark-length kind fd count ws r =
     pick_ind (λ (l : List ℕ). length l ≡ length ws) (tells r kind fd) (pick (ltb r.number count) (set_bit ws 0 r.number) ws) ws
     (λ e. pick_ind (λ (l : List ℕ). length l ≡ length ws) (ltb r.number count) (set_bit ws 0 r.number) ws (λ f. simp length-set) (λ f. refl)) (λ e. refl)
 
-past-small : (kind fd n : ℕ) (r : Row) → past_row kind fd n r ≤ 1
-past-small kind fd n r =
-    pick_ind (λ (p : ℕ). p ≤ 1) (tells r kind fd) (pick (ltb r.number n) 0 1) 0
-    (λ e. pick_ind (λ (p : ℕ). p ≤ 1) (ltb r.number n) 0 1 (λ f. omega arith) (λ f. omega arith)) (λ e. omega arith)
+-- no row of two parts is past the count where none of either is
+none_of : (m n : ℕ) → eqb (m + n) 0 ≡ pick (eqb m 0) (eqb n 0) false
+none_of zero n = ap (λ (k : ℕ). eqb k 0) (zero-add n)
+none_of (suc m) n = rw (ne_eqb (suc m + n) 0 (λ e. omega arith), ne_eqb (suc m) 0 (λ e. omega arith)) refl
 
--- i rows have set their bits, past of which have no subroutine
-pub record Marking (b : List ℕ) (kind fd count : ℕ) (old marks : List ℕ) (past i : ℕ) : Type 0 where
+-- i rows have set their bits, and each has its subroutine, or one has not
+pub record Marking (b : List ℕ) (kind fd count : ℕ) (old marks : List ℕ) (all : Bool) (i : ℕ) : Type 0 where
   pub within : i ≤ length b / 10
   pub long : length marks ≡ length old
-  pub few : past ≤ i
   pub same : marked kind fd count (rest_of b i) marks ≡ marked kind fd count (rows_of b) old
-  pub total : past + past_of kind fd count (rest_of b i) ≡ past_of kind fd count (rows_of b)
+  pub whole : pick all (eqb (past_of kind fd count (rest_of b i)) 0) false ≡ eqb (past_of kind fd count (rows_of b)) 0
 
 module _ (b : List ℕ) (kind fd count : ℕ) (old : List ℕ) where
-  pub marking_start : Marking b kind fd count old old 0 0
+  pub marking_start : Marking b kind fd count old old true 0
   marking_start =
       record {
         within = omega arith;
         long = refl;
-        few = omega arith;
         same = ap (λ (rs : List Row). marked kind fd count rs old) (rest_all b);
-        total = let e : past_of kind fd count (rest_of b 0) ≡ past_of kind fd count (rows_of b) = ap (past_of kind fd count) (rest_all b) in omega arith;
+        whole = ap (λ (rs : List Row). eqb (past_of kind fd count rs) 0) (rest_all b);
       }
 
-  module _ (marks : List ℕ) (past i : ℕ) (m : Marking b kind fd count old marks past i) where
-    pub marking_next : i < length b / 10 → (r : code.Row) → row_in r ≡ row_no b i → (new : List ℕ) (p : ℕ) → new ≡ mark_row kind fd count marks (row_in r)
-        → p ≡ past_row kind fd count (row_in r) → Marking b kind fd count old new (past + p) (i + 1)
+  module _ (marks : List ℕ) (all : Bool) (i : ℕ) (m : Marking b kind fd count old marks all i) where
+    pub marking_next : i < length b / 10 → (r : code.Row) → row_in r ≡ row_no b i → (new : List ℕ) (t : Bool) → new ≡ mark_row kind fd count marks (row_in r)
+        → t ≡ eqb (past_row kind fd count (row_in r)) 0 → (all' : Bool) → all' ≡ pick t all false → Marking b kind fd count old new all' (i + 1)
     unfolding marked past_of
-    marking_next h r e new p n q =
-        let s : p ≤ 1 = omega (arith, q, past-small kind fd count (row_in r)) in
+    marking_next h r e new t n q all' p =
+        let left = eqb (past_of kind fd count (rest_of b (i + 1))) 0 in
         let n' : new ≡ mark_row kind fd count marks (row_no b i) = n ∙ ap (mark_row kind fd count marks) e in
-        let q' : p ≡ past_row kind fd count (row_no b i)
-        = q ∙ ap (past_row kind fd count) e in
-        let t : past_of kind fd count (rest_of b i) ≡ past_row kind fd count (row_no b i) + past_of kind fd count (rest_of b (i + 1))
-        = ap (past_of kind fd count) (rest-next b i h) in
+        let q' : t ≡ eqb (past_row kind fd count (row_no b i)) 0 = q ∙ ap (λ (x : Row). eqb (past_row kind fd count x) 0) e in
+        let s : eqb (past_of kind fd count (rest_of b i)) 0 ≡ pick t left false
+        = ap (λ (rs : List Row). eqb (past_of kind fd count rs) 0) (rest-next b i h)
+        ∙ none_of (past_row kind fd count (row_no b i)) (past_of kind fd count (rest_of b (i + 1)))
+        ∙ ap (λ (u : Bool). pick u left false) (sym q') in
         record {
           within = omega arith;
           long = ap length n' ∙ mark-length kind fd count marks (row_no b i) ∙ m.long;
-          few = omega (arith, m.few);
           same = ap (marked kind fd count (rest_of b (i + 1))) n' ∙ sym (ap (λ (rs : List Row). marked kind fd count rs marks) (rest-next b i h)) ∙ m.same;
-          total = omega (arith, t, q', m.total);
+          whole = ap (λ (u : Bool). pick u left false) p ∙ either t all left ∙ ap (λ (u : Bool). pick all u false) (sym s) ∙ m.whole;
         }
+      where
+        either : (t u w : Bool) → pick (pick t u false) w false ≡ pick u (pick t w false) false
+        either true true w = refl
+        either true false w = refl
+        either false true w = refl
+        either false false w = refl
 
-    pub marking_fits : i < length b / 10 → (r : code.Row) (p : ℕ) → p ≡ past_row kind fd count (row_in r) → past + p ≤ length b
-    marking_fits h r p q = omega (arith, q, past-small kind fd count (row_in r), m.few)
-
-    pub marking_done : length b / 10 ≤ i → (marks ≡ marked kind fd count (rows_of b) old) × (past ≡ past_of kind fd count (rows_of b))
+    pub marking_done : length b / 10 ≤ i → (marks ≡ marked kind fd count (rows_of b) old) × (all ≡ eqb (past_of kind fd count (rows_of b)) 0)
     unfolding marked past_of
     marking_done h =
         let e = rest-none b i h in
-        let z : past_of kind fd count (rest_of b i) ≡ 0 = ap (past_of kind fd count) e in
-        (sym (ap (λ (rs : List Row). marked kind fd count rs marks) e) ∙ m.same, omega (arith, z, m.total))
+        let z : eqb (past_of kind fd count (rest_of b i)) 0 ≡ true = ap (λ (rs : List Row). eqb (past_of kind fd count rs) 0) e in
+        (sym (ap (λ (rs : List Row). marked kind fd count rs marks) e) ∙ m.same, sym (same all) ∙ ap (λ (u : Bool). pick all u false) (sym z) ∙ m.whole)
+      where
+        same : (t : Bool) → pick t true false ≡ t
+        same true = refl
+        same false = refl
 
 -- ---- marks turned into ranks
 

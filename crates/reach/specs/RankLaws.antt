@@ -12,6 +12,8 @@ use Rattle.bits.specs.BitsLaws.{whole_is, count-alike}
 use Rattle.bits.specs.WordsLaws.{words-known, words-length, own-bit, none-set}
 use Rattle.subset.specs.Pruned.{reached}
 use Rattle.reach.specs.declared.ranks.Ranked.{Ranked}
+use Rattle.reach.specs.declared.Subrs.{Subrs}
+use Rattle.reach.specs.declared.Subrs.TheVariants.{Global, Local}
 use Rattle.reach.specs.Reach.{set_of, ranked_of}
 use Rattle.reach.specs.Ranks.{reached_in, marked, past_of, counts_of}
 use Rattle.reach.specs.RowLaws.{all_fit}
@@ -92,8 +94,8 @@ module _ (s : ℕ → Bool) (count : ℕ) (ws : List ℕ) (is : ws ≡ bits_of s
       ap (λ (n : ℕ). four (ones_to ws) (first (eighth n)) (eighth n)) long
       ∙ ap (λ (f : ℕ → ℕ). four f (first (eighth (words_for count))) (eighth (words_for count))) (λ i. λ m. sums m i)
 
-  counts_are : (past : ℕ) → eqb past 0 ≡ eqb (reached s) (count_below s count) → counts_of ws past ≡ ranked_of s count
-  counts_are past a =
+  counts_are : (all : Bool) → all ≡ eqb (reached s) (count_below s count) → counts_of ws all ≡ ranked_of s count
+  counts_are all a =
       let low : four (ones_to ws) 0 (eighth (length ws)) ≡ low_sums s count = four_same (λ e. 0) in
       let high : four (ones_to ws) (4 * eighth (length ws)) (eighth (length ws)) ≡ high_sums s count = four_same (λ e. 4 * e) in
       λ i. answer (all_ones i) (a i) (low i) (high i)
@@ -107,33 +109,33 @@ held_bits : (s : ℕ → Bool) (count : ℕ) (marks : List ℕ) → marks ≡ bi
 held_bits s count marks w i h = ap (λ (l : List ℕ). bit_in l 0 i) w ∙ own-bit (below s count) (words_for count) i h
 
 -- the counts as the code finds them
-pub counts_as : (ws : List ℕ) (past e n low high : ℕ) → e ≡ eighth (length ws) → n ≡ whole_ones_lem ws 0 (length ws) → low ≡ four (ones_to ws) 0 e
-    → high ≡ four (ones_to ws) (4 * e) e → answer n (eqb past 0) low high ≡ counts_of ws past
-counts_as ws past e n low high a b c d =
+pub counts_as : (ws : List ℕ) (all : Bool) (e n low high : ℕ) → e ≡ eighth (length ws) → n ≡ whole_ones_lem ws 0 (length ws) → low ≡ four (ones_to ws) 0 e
+    → high ≡ four (ones_to ws) (4 * e) e → answer n all low high ≡ counts_of ws all
+counts_as ws all e n low high a b c d =
     let l : low ≡ four (ones_to ws) 0 (eighth (length ws)) = c ∙ ap (four (ones_to ws) 0) a in
     let h : high ≡ four (ones_to ws) (4 * eighth (length ws)) (eighth (length ws)) = d ∙ ap (λ (x : ℕ). four (ones_to ws) (4 * x) x) a in
-    λ i. answer (b i) (eqb past 0) (l i) (h i)
+    λ i. answer (b i) all (l i) (h i)
 
 -- words cleared, set and counted
-pub ranked-rows : (b old clear marks : List ℕ) (kind fd count past : ℕ) → Octets b → count < 65536 → length old ≡ words_for count → clear ≡ replicate (length old) 0
-    → (marks ≡ marked kind fd count (rows_of b) clear) × (past ≡ past_of kind fd count (rows_of b)) → (r : Ranked) → r ≡ counts_of marks past
+pub ranked-rows : (b old clear marks : List ℕ) (kind fd count : ℕ) (all : Bool) → Octets b → count < 65536 → length old ≡ words_for count → clear ≡ replicate (length old) 0
+    → (marks ≡ marked kind fd count (rows_of b) clear) × (all ≡ eqb (past_of kind fd count (rows_of b)) 0) → (r : Ranked) → r ≡ counts_of marks all
     → (marks ≡ bits_of (reached_in (rows_of b) kind fd) count) × (r ≡ ranked_of (reached_in (rows_of b) kind fd) count)
-ranked-rows b old clear marks kind fd count past o h l c m r q =
+ranked-rows b old clear marks kind fd count all o h l c m r q =
     let s = reached_in (rows_of b) kind fd in
     let n = words_for count in
     let d : marks ≡ marked kind fd count (rows_of b) (replicate n 0)
     = m.0 ∙ ap (marked kind fd count (rows_of b)) (c ∙ ap (λ (k : ℕ). replicate k 0) l) in
     let w : marks ≡ bits_of s count = d ∙ marked-words (rows_of b) kind fd count in
-    let a : eqb past 0 ≡ eqb (reached s) (count_below s count) = ap (λ (i : ℕ). eqb i 0) m.1 ∙ all-below kind fd count (rows_of b) (all_fit b o) h in
-    (w, q ∙ counts_are s count marks w (words_small (rows_of b) kind fd count marks d) (held_bits s count marks w) past a)
+    let a : all ≡ eqb (reached s) (count_below s count) = m.1 ∙ all-below kind fd count (rows_of b) (all_fit b o) h in
+    (w, q ∙ counts_are s count marks w (words_small (rows_of b) kind fd count marks d) (held_bits s count marks w) all a)
 
 -- ---- a part of the work words
 
-pub globals-set : (rows : List Row) (g : Bool) (fd : ℕ) → g ≡ true → reached_in rows 1 0 ≡ set_of rows g fd
-globals-set rows g fd e = ap (λ (t : Bool). set_of rows t fd) (sym e)
+pub globals-set : (rows : List Row) (of : Subrs) → of ≡ Global → reached_in rows 1 0 ≡ set_of rows of
+globals-set rows of e = ap (set_of rows) (sym e)
 
-pub locals-set : (rows : List Row) (g : Bool) (fd : ℕ) → g ≡ false → reached_in rows 0 fd ≡ set_of rows g fd
-locals-set rows g fd e = ap (λ (t : Bool). set_of rows t fd) (sym e)
+pub locals-set : (rows : List Row) (of : Subrs) (fd : ℕ) → of ≡ Local fd → reached_in rows 0 fd ≡ set_of rows of
+locals-set rows of fd e = ap (set_of rows) (sym e)
 
 pub ranked-part : (words new : List ℕ) (at n count : ℕ) (s t : ℕ → Bool) (r : Ranked) → s ≡ t → n ≡ words_for count → at + words_for count ≤ length words
     → (new ≡ bits_of s count) × (r ≡ ranked_of s count)

@@ -34,12 +34,12 @@ unfoldable pub past_of : ℕ → ℕ → ℕ → List Row → ℕ
 past_of kind fd count [] = 0
 past_of kind fd count (r ∷ rs) = past_row kind fd count r + past_of kind fd count rs
 
--- the counts of some words' bits, all of them and those below each eighth, where so many rows have a subroutine past the count
-abbrev pub counts_of : List ℕ → ℕ → Ranked
-counts_of ws past =
+-- the counts of some words' bits, all of them and those below each eighth, and whether no row has a subroutine past the count
+abbrev pub counts_of : List ℕ → Bool → Ranked
+counts_of ws all =
     record {
       reached = whole_ones_lem ws 0 (length ws);
-      all = eqb past 0;
+      all = all;
       low = four (ones_to ws) 0 (eighth (length ws));
       high = four (ones_to ws) (4 * eighth (length ws)) (eighth (length ws));
     }

@@ -1,27 +1,14 @@
 -- The reach record as the code asks it (document 01, 'Reach record'), and the new numbers of subroutines by their bits in the work words (document 02, Wish 7).
 use Rattle.std.specs.Prelude.{ℕ, zero, suc, ◌+◌, ◌-◌, ◌*◌, ◌/◌, ◌<◌, Bool, true, false, ◌&&◌, List, [], ◌∷◌, ltb, eqb, length, drop, None, Option}
 use Rattle.octets.specs.Pick.{pick}
-use Rattle.unfold.specs.Unfold.{Row, glyph, local, global}
-use Rattle.unfold.specs.Unfold as body
+use Rattle.unfold.specs.Unfold.{Row}
 use Rattle.record.specs.Record.{row_of, rows_from, takes_fd}
 use Rattle.bits.specs.Bits.{count_below, bit_in, low_sums, high_sums}
 use Rattle.subset.specs.Pruned.{rank, reached, local_set, global_set}
 use Rattle.reach.specs.declared.Row as code
-use Rattle.reach.specs.declared.Site.{Site}
-use Rattle.reach.specs.declared.Site.TheVariants.{Glyph, Local, Global}
+use Rattle.reach.specs.declared.Subrs.{Subrs}
+use Rattle.reach.specs.declared.Subrs.TheVariants.{Global, Local}
 use Rattle.reach.specs.declared.ranks.Ranked.{Ranked}
-
--- the body that a site of the code is
-abbrev pub site_of : Site → body.Site
-site_of (Glyph g) = glyph g
-site_of (Local fd k) = local fd k
-site_of (Global k) = global k
-
--- numbers that a row can hold
-abbrev pub SiteFits : Site → Type 0
-SiteFits (Glyph g) = g < 65536
-SiteFits (Local fd k) = (fd < 256) × (k < 65536)
-SiteFits (Global k) = k < 65536
 
 -- a row's first eight bytes as one number: kind, FD, number, offset
 abbrev pub key_of_lem : Row → ℕ
@@ -33,9 +20,15 @@ rises [] = true
 rises (r ∷ []) = true
 rises (r ∷ q ∷ rs) = pick (ltb (key_of_lem q) (key_of_lem r)) false (rises (q ∷ rs))
 
--- what a record has of the locals of an FD, or of the globals
-abbrev pub set_of : List Row → Bool → ℕ → ℕ → Bool
-set_of rows globals fd k = pick globals (global_set rows k) (local_set rows fd k)
+-- an FD that a row can hold
+abbrev pub SubrsFit : Subrs → Type 0
+SubrsFit Global = Unit
+SubrsFit (Local fd) = fd < 256
+
+-- what a record has of the globals, or of the locals of an FD
+abbrev pub set_of : List Row → Subrs → ℕ → Bool
+set_of rows Global = global_set rows
+set_of rows (Local fd) = local_set rows fd
 
 -- for n numbers from k on: 0 for one that is not in a set, else how many of the set are below it, and 1
 unfoldable pub ranks_of : (ℕ → Bool) → ℕ → ℕ → List ℕ

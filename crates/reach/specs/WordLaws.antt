@@ -15,6 +15,8 @@ use Rattle.subset.specs.Pruned.{reached, rank}
 use Rattle.reach.specs.Reach.{ranks_of, set_of, number_in}
 use Rattle.reach.specs.Ranks.{reached_in}
 use Rattle.reach.specs.Cases.{by_order}
+use Rattle.reach.specs.declared.Subrs.{Subrs}
+use Rattle.reach.specs.declared.Subrs.TheVariants.{Global, Local}
 use Rattle.reach.specs.RowLaws.{AllFit}
 use Rattle.reach.specs.CountLaws.{other_row, length-ranks, count-more}
 
@@ -61,16 +63,16 @@ unfolding lists AllFit
 large_unreached [] kind fd k a h = refl
 large_unreached (r ∷ rs) kind fd k a h = rw (other_row kind fd k r (λ e. omega (arith, a.0.number))) (large_unreached rs kind fd k a.1 h)
 
-large_set : (rows : List Row) (g : Bool) (fd k : ℕ) → AllFit rows → 65536 ≤ k → set_of rows g fd k ≡ false
-large_set rows true fd k a h = large_unreached rows 1 0 k a h
-large_set rows false fd k a h = large_unreached rows 0 fd k a h
+large_set : (rows : List Row) (of : Subrs) (k : ℕ) → AllFit rows → 65536 ≤ k → set_of rows of k ≡ false
+large_set rows Global k a h = large_unreached rows 1 0 k a h
+large_set rows (Local fd) k a h = large_unreached rows 0 fd k a h
 
 -- where the record has no other number, a number from the count on has no new one
-pub past-none : (rows : List Row) (g : Bool) (fd count k : ℕ) → AllFit rows → count ≤ k
-    → eqb (reached (set_of rows g fd)) (count_below (set_of rows g fd) count) ≡ true → rank (set_of rows g fd) k ≡ None
-past-none rows g fd count k a h e =
-    let s = set_of rows g fd in
+pub past-none : (rows : List Row) (of : Subrs) (count k : ℕ) → AllFit rows → count ≤ k
+    → eqb (reached (set_of rows of)) (count_below (set_of rows of) count) ≡ true → rank (set_of rows of) k ≡ None
+past-none rows of count k a h e =
+    let s = set_of rows of in
     let q : count_below s 65536 ≡ count_below s count = eqb-true _ _ e in
     let f : s k ≡ false =
-    by_order k 65536 (λ l. not_true (s k) (λ t. omega (arith, count-more s count k 65536 h l t))) (λ l. large_set rows g fd k a l) in
+    by_order k 65536 (λ l. not_true (s k) (λ t. omega (arith, count-more s count k 65536 h l t))) (λ l. large_set rows of k a l) in
     rw f

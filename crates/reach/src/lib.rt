@@ -20,12 +20,12 @@ pub struct Row {
     pub len: u16,
 }
 
-// A body that the record speaks of.
+// The subroutines of an INDEX: the globals, or the locals of an FD.
+// (It stays an enum: they are two kinds, and an Option is no plainer, since None would not say that the globals are meant.)
 #[derive(Clone, Copy)]
-pub enum Site {
-    Glyph(u16),
-    Local { fd: u8, number: u16 },
-    Global(u16),
+pub enum Subrs {
+    Global,
+    Local(usize),
 }
 
 // The i-th row of a record.
@@ -49,6 +49,7 @@ pub fn row_at(rows: &[u8], i: usize) -> Row
 }
 
 // Whether a row of a kind may have an FD that is not 0.
+// (Kind and FD go side by side in this crate: as a struct they would only be taken apart again, for each is compared with a row's by itself.)
 fn takes_fd(cid: bool, kind: u8) -> bool
     ensures { result ≡ takes_fd cid kind }
 {

@@ -2,12 +2,14 @@
 ghost use Rattle.std.specs.Prelude.{◌≡◌, ◌+◌, ◌*◌, ◌/◌, ◌<◌, length};
 ghost use Rattle.unfold.specs.Unfold.{masked};
 ghost use Rattle.record.specs.Record.{rows_of, given_in, two_lengths_lem};
-ghost use Rattle.reach.specs.Reach.{Fits, site_of, row_in, row_no, rest_of, key_of_lem, rises};
+ghost use Rattle.unfold.specs.Sites.{site_of};
+ghost use Rattle.reach.specs.Reach.{Fits, row_in, row_no, rest_of, key_of_lem, rises};
 ghost use Rattle.reach.specs.Masks.{body_of_lem, len_at, clashes, other_len_lem, clash_at, two_of, FirstAt};
 
+use crate::Row;
 use crate::rows::{Rising, Rows};
-use crate::{Row, Site};
 use charstring::MaskLen;
+use unfold::Site;
 
 // The body that a row speaks of, as one number: kind, FD, number.
 fn body_of(r: Row) -> u32

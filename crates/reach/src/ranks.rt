@@ -1,13 +1,13 @@
 // The new numbers of subroutines (document 02, Wish 7): a bit in the work words for each subroutine that is reached, which is numbered by the
 // ones below its bit. (Marks that become ranks, plus 1, number the FDs in use.)
-ghost use Rattle.std.specs.Prelude.{◌≡◌, ◌+◌, ◌≤◌, ◌<◌, length, replicate};
+ghost use Rattle.std.specs.Prelude.{◌≡◌, ◌+◌, ◌≤◌, ◌<◌, eqb, length};
 ghost use Rattle.octets.specs.Octets.{put};
 ghost use Rattle.bits.specs.Bits.{words_for, bits_of};
 ghost use Rattle.record.specs.Record.{rows_of};
-ghost use Rattle.reach.specs.Reach.{row_in, set_of, ranked_of};
+ghost use Rattle.reach.specs.Reach.{SubrsFit, row_in, set_of, ranked_of};
 ghost use Rattle.reach.specs.Ranks.{tells, mark_row, marked, past_row, past_of, ranked, counted, reached_in, counts_of};
 
-use crate::Row;
+use crate::{Row, Subrs};
 
 // How many of some subroutines are reached, whether the record has no other number, and how many are reached below each eighth of their words.
 #[derive(Clone, Copy)]
@@ -19,23 +19,16 @@ pub struct Ranked {
 }
 
 // Sets the words of count subroutines, from `at` on, to a bit for each that the record has: globals, or locals of an FD.
-pub fn rank_reached(
-    rows: &[u8],
-    global: bool,
-    fd: usize,
-    words: &mut [u32],
-    at: usize,
-    count: usize,
-) -> Ranked
-    requires { (fd < 256) × (count < 65536) × (at + words_for count ≤ length words.old) }
-    ensures { (words.new ≡ put words.old at (bits_of (set_of (rows_of rows.now) global fd) count))
-        × (result ≡ ranked_of (set_of (rows_of rows.now) global fd) count) }
+pub fn rank_reached(rows: &[u8], of: Subrs, words: &mut [u32], at: usize, count: usize) -> Ranked
+    requires { (SubrsFit of) × (count < 65536) × (at + words_for count ≤ length words.old) }
+    ensures { (words.new ≡ put words.old at (bits_of (set_of (rows_of rows.now) of) count))
+        × (result ≡ ranked_of (set_of (rows_of rows.now) of) count) }
 {
     let end = at + bits::words_for(count);
-    if global {
-        return rank_rows(rows, 1, 0, count, &mut words[at..end]);
+    match of {
+        Subrs::Global => rank_rows(rows, 1, 0, count, &mut words[at..end]),
+        Subrs::Local(fd) => rank_rows(rows, 0, fd as u8, count, &mut words[at..end]),
     }
-    rank_rows(rows, 0, fd as u8, count, &mut words[at..end])
 }
 
 // The same for all of some words, and the rows of a kind and an FD. The kind is the number that the rows have.
@@ -44,15 +37,15 @@ fn rank_rows(rows: &[u8], kind: u8, fd: u8, count: usize, held: &mut [u32]) -> R
     ensures { (held.new ≡ bits_of (reached_in (rows_of rows.now) kind fd) count)
         × (result ≡ ranked_of (reached_in (rows_of rows.now) kind fd) count) }
 {
-    clear(held);
-    let past = mark_rows(rows, kind, fd, count, held);
-    sums_of(held, past)
+    held.fill(0);
+    let all = mark_rows(rows, kind, fd, count, held);
+    sums_of(held, all)
 }
 
 // How many bits are set in some words, and how many below each eighth of them.
-fn sums_of(held: &[u32], past: usize) -> Ranked
+fn sums_of(held: &[u32], all: bool) -> Ranked
     requires { length held.now ≤ 2048 }
-    ensures { result ≡ counts_of held.now past }
+    ensures { result ≡ counts_of held.now all }
 {
     let n = held.len();
     let e = bits::sums::eighth(n);
@@ -61,17 +54,10 @@ fn sums_of(held: &[u32], past: usize) -> Ranked
     let high = bits::sums::four_sums(held, 4 * e, e);
     Ranked {
         reached,
-        all: past == 0,
+        all,
         low,
         high,
     }
-}
-
-// Sets all words to 0.
-pub fn clear(marks: &mut [u32])
-    ensures { marks.new ≡ replicate (length marks.old) 0 }
-{
-    marks.fill(0);
 }
 
 // Whether a row says that a subroutine of a kind and an FD is reached.
@@ -90,34 +76,36 @@ fn tells(r: Row, kind: u8, fd: u8) -> bool
     r.len == 0
 }
 
-// Sets the bit of the subroutine that a row says is reached; returns 1 where there is no such subroutine, else 0.
-fn mark_row(r: Row, kind: u8, fd: u8, count: usize, held: &mut [u32]) -> usize
+// Sets the bit of the subroutine that a row says is reached; false where there is no such subroutine.
+fn mark_row(r: Row, kind: u8, fd: u8, count: usize, held: &mut [u32]) -> bool
     requires { words_for count ≤ length held.old }
-    ensures { (held.new ≡ mark_row kind fd count held.old (row_in r)) × (result ≡ past_row kind fd count (row_in r)) }
+    ensures { (held.new ≡ mark_row kind fd count held.old (row_in r)) × (result ≡ eqb (past_row kind fd count (row_in r)) 0) }
 {
     let number = r.number as usize;
     if tells(r, kind, fd) {
         if number < count {
             bits::set_bit(held, 0, number);
-            return 0;
+            return true;
         }
-        return 1;
+        return false;
     }
-    0
+    true
 }
 
-// Sets the bits of the subroutines that the rows say are reached; returns how many rows have no subroutine.
-fn mark_rows(rows: &[u8], kind: u8, fd: u8, count: usize, held: &mut [u32]) -> usize
+// Sets the bits of the subroutines that the rows say are reached; false where one of the rows has no subroutine.
+fn mark_rows(rows: &[u8], kind: u8, fd: u8, count: usize, held: &mut [u32]) -> bool
     requires { words_for count ≤ length held.old }
     ensures { (held.new ≡ marked kind fd count (rows_of rows.now) held.old)
-        × (result ≡ past_of kind fd count (rows_of rows.now)) }
+        × (result ≡ eqb (past_of kind fd count (rows_of rows.now)) 0) }
 {
-    let mut past = 0;
+    let mut all = true;
     for i in 0..rows.len() / 10 {
         let r = crate::row_at(rows, i);
-        past += mark_row(r, kind, fd, count, &mut *held);
+        if !mark_row(r, kind, fd, count, &mut *held) {
+            all = false;
+        }
     }
-    past
+    all
 }
 
 // Turns marks into ranks, plus 1; returns how many marks there were.

@@ -2,7 +2,7 @@
 use Rattle.std.specs.Prelude.{ℕ, Bool, List}
 use Rattle.std.proofs.Props.{props}
 use Rattle.unfold.specs.Unfold.{Row}
-use Rattle.reach.specs.declared.Site.{Site}
+use Rattle.unfold.specs.declared.Site.{Site}
 use Rattle.renumber.specs.Ranks.{Ranked}
 use Rattle.renumber.specs.Turn.{Inputs}
 use Rattle.renumber.specs.declared.Ranks.{Ranks}

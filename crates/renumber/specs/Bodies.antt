@@ -4,9 +4,9 @@ use Rattle.charstring.specs.declared.MaskLen.{MaskLen}
 use Rattle.prune.specs.Renumber.{Calls, renumber_charstring}
 use Rattle.record.specs.Record.{rows_of, given_in}
 use Rattle.subset.specs.Pruned.{renumbered_body}
-use Rattle.reach.specs.Reach.{site_of}
+use Rattle.unfold.specs.Sites.{site_of}
 use Rattle.renumber.specs.Ranks.{calls_by}
-use Rattle.reach.specs.declared.Site.{Site}
+use Rattle.unfold.specs.declared.Site.{Site}
 use Rattle.renumber.specs.declared.Ranks.{Ranks}
 use Rattle.renumber.specs.declared.body.Body.{Body}
 

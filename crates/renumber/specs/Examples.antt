@@ -36,7 +36,7 @@ six_tokens = 0xf7 ∷ 0x00 ∷ 0x8b ∷ 0x15 ∷ 0x22 ∷ 0x0a ∷ 0x13 ∷ 0xf7
 
 -- its plain tokens, by their lengths: neither the call nor the mask's operator nor the number that is cut off is one
 plain_lengths : (plain_len six_tokens 0 ∷ plain_len six_tokens 2 ∷ plain_len six_tokens 3 ∷ plain_len six_tokens 4 ∷ plain_len six_tokens 5 ∷ plain_len six_tokens 6
-    ∷ plain_len six_tokens 7 ∷ []) ≡ 2 ∷ 1 ∷ 1 ∷ 1 ∷ 0 ∷ 0 ∷ 0 ∷ []
+    ∷ plain_len six_tokens 7 ∷ []) ≡ Some 2 ∷ Some 1 ∷ Some 1 ∷ Some 1 ∷ None ∷ None ∷ None ∷ []
 unfolding plain_len
 plain_lengths = refl
 
@@ -46,11 +46,11 @@ longer =
     (0x1c ∷ 0x04 ∷ 0x6b ∷ []) ∷ (0x1c ∷ 0x04 ∷ 0x6c ∷ []) ∷ (0x1c ∷ 0x80 ∷ 0x00 ∷ []) ∷ (0xff ∷ 0x00 ∷ 0x01 ∷ 0x00 ∷ 0x00 ∷ [])
     ∷ (0xff ∷ 0x00 ∷ 0x00 ∷ 0x80 ∷ 0x00 ∷ []) ∷ (0xff ∷ 0x01 ∷ 0x00 ∷ 0x80 ∷ 0x00 ∷ []) ∷ []
 
-lengths_of : List (List ℕ) → List ℕ
+lengths_of : List (List ℕ) → List (Option ℕ)
 lengths_of [] = []
 lengths_of (s ∷ ss) = plain_len s 0 ∷ lengths_of ss
 
-longer_lengths : lengths_of longer ≡ 0 ∷ 3 ∷ 0 ∷ 0 ∷ 5 ∷ 0 ∷ []
+longer_lengths : lengths_of longer ≡ None ∷ Some 3 ∷ None ∷ None ∷ Some 5 ∷ None ∷ []
 unfolding lengths_of plain_len three_len five_len is_three_lem is_five_lem
 longer_lengths = refl
 

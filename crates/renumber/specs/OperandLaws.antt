@@ -1,6 +1,6 @@
 -- Laws of a call's new operand: by the rank of the subroutine that the old operand names; it is a reading.
-use Rattle.std.specs.Prelude.{ℕ, zero, suc, ◌+◌, ◌-◌, ◌*◌, ◌/◌, ◌%◌, ◌≤◌, ◌<◌, ◌≡◌, refl, Bool, true, false, List, ltb, eqb, ℤ, pos, negsuc, None, Option, Some}
-use Rattle.std.proofs.Common.{sym, ap, ◌∙◌, subst, true≢false, div-lt_iff_lt-mul, div-mul-le_self, arith, ltb-true, lt-ltb, le-ltb, eq-eqb, ne_eqb, le-leb}
+use Rattle.std.specs.Prelude.{ℕ, zero, suc, ◌+◌, ◌-◌, ◌*◌, ◌/◌, ◌%◌, ◌≤◌, ◌<◌, ◌≡◌, refl, Bool, true, false, List, ltb, eqb, ℤ, pos, negsuc, None, Option, Some, SomeIff}
+use Rattle.std.proofs.Common.{sym, ap, ◌∙◌, subst, true≢false, div-lt_iff_lt-mul, div-mul-le_self, arith, ltb-true, lt-ltb, eq-eqb, ne_eqb, le-leb}
 use Rattle.std.proofs.lemmas.Bool.{false≢true, lt-leb}
 use Rattle.std.proofs.Math.Nat.{lt-div-mul-add}
 use Rattle.octets.specs.Pick.{pick, pick_ind}
@@ -14,7 +14,7 @@ use Rattle.prune.specs.StepLaws.{zero_one}
 use Rattle.prune.specs.Renumber.{operand_of}
 use Rattle.prune.specs.RenumberSteps.{new_of, operand_for}
 use Rattle.prune.specs.OperandLaws.{operand_reading}
-use Rattle.renumber.specs.Ranks.{rank_in, number_of, rank_at, new_in, numbers_in, calls_by, Ranked}
+use Rattle.renumber.specs.Ranks.{numbers_in, calls_by, Ranked}
 use Rattle.renumber.specs.Turn.{turn_for}
 use Rattle.renumber.specs.declared.Ranks.{Ranks}
 use Rattle.renumber.specs.declared.turns.Turn.TheVariants.{Stuck, Sends}
@@ -87,10 +87,8 @@ module _ (ws : List ℕ) (q : Ranks) (good : Ranked ws q) (all : q.reached ≡ q
           let b = kept-number (suc i) (omega arith) in
           absurd (let y : ⊥ = omega (arith, count_next set i false e) in y)
 
-  pub rank-kept : (i : ℕ) → i < q.count → i + 1 ≡ rank_in ws q i
-  rank-kept i h =
-      let a : count_below set i + 1 ≡ i + 1 = ap (λ (n : ℕ). n + 1) (kept-number i (omega arith)) in
-      rw (lt-ltb i q.count h, kept-bit i h) (sym a)
+  pub rank-kept : (i : ℕ) → i < q.count → Some i ≡ numbers_in ws q i
+  rank-kept i h = rw (lt-ltb i q.count h, kept-bit i h) (ap Some (sym (kept-number i (omega arith))))
 
 -- ---- the rank of a subroutine, from the sum below its eighth
 
@@ -141,108 +139,82 @@ module _ (ws : List ℕ) (q : Ranks) (good : Ranked ws q) (i : ℕ) (h : i < q.c
 -- ---- the subroutine that an operand names, as the code finds it
 
 module _ (bias : ℕ) where
-  fraction : (z : ℤ) → (mag z % 65536 ≡ 0 → ⊥) → 65536 ≡ number_of (numbered bias z)
+  fraction : (z : ℤ) → (mag z % 65536 ≡ 0 → ⊥) → None ≡ numbered bias z
   fraction (pos m) k = rw (ne_eqb (m % 65536) 0 k)
   fraction (negsuc m) k = rw (ne_eqb (suc m % 65536) 0 k)
 
-  before-first : (z : ℤ) → is_neg z ≡ true → mag z % 65536 ≡ 0 → bias < mag z / 65536 → 65536 ≡ number_of (numbered bias z)
+  before-first : (z : ℤ) → is_neg z ≡ true → mag z % 65536 ≡ 0 → bias < mag z / 65536 → None ≡ numbered bias z
   before-first (pos m) u k l = absurd (false≢true u)
   before-first (negsuc m) u k l = rw (eq-eqb (suc m % 65536) 0 k, lt-leb (suc m / 65536) bias l)
 
-  down : (z : ℤ) → is_neg z ≡ true → mag z % 65536 ≡ 0 → mag z / 65536 ≤ bias → bias - mag z / 65536 ≡ number_of (numbered bias z)
+  down : (z : ℤ) → is_neg z ≡ true → mag z % 65536 ≡ 0 → mag z / 65536 ≤ bias → Some (bias - mag z / 65536) ≡ numbered bias z
   down (pos m) u k l = absurd (false≢true u)
   down (negsuc m) u k l = rw (eq-eqb (suc m % 65536) 0 k, le-leb (suc m / 65536) bias l)
 
-  up : (z : ℤ) → is_neg z ≡ false → mag z % 65536 ≡ 0 → mag z / 65536 + bias ≡ number_of (numbered bias z)
+  up : (z : ℤ) → is_neg z ≡ false → mag z % 65536 ≡ 0 → Some (mag z / 65536 + bias) ≡ numbered bias z
   up (pos m) u k = rw (eq-eqb (m % 65536) 0 k)
   up (negsuc m) u k = absurd (true≢false u)
 
   module _ (z : ℤ) (size : ℕ) (g : size ≡ mag z) where
-    pub number-fraction : (size % 65536 ≡ 0 → ⊥) → 65536 ≡ number_of (numbered bias z)
+    pub number-fraction : (size % 65536 ≡ 0 → ⊥) → None ≡ numbered bias z
     number-fraction n = fraction z (λ e. n (ap (λ (k : ℕ). k % 65536) g ∙ e))
 
     module _ (neg : Bool) (n : neg ≡ is_neg z) (h : size % 65536 ≡ 0) (added : ℕ) (a : added ≡ bias) where
       even : mag z % 65536 ≡ 0
       even = ap (λ (k : ℕ). k % 65536) (sym g) ∙ h
 
-      pub number-before : neg ≡ true → added < size / 65536 → 65536 ≡ number_of (numbered bias z)
-      number-before t l = before-first z (sym n ∙ t) even (subst (λ (k : ℕ). bias < k / 65536) g (subst (λ (k : ℕ). k < size / 65536) a l))
+      pub number-down : neg ≡ true → (r : Option ℕ) → SomeIff r (size / 65536 ≤ added) (added - size / 65536) → r ≡ numbered bias z
+      number-down t None o = before-first z (sym n ∙ t) even (subst (λ (k : ℕ). bias < k / 65536) g (subst (λ (k : ℕ). k < size / 65536) a (omega (arith, o))))
+      number-down t (Some x) o =
+          ap Some (o.1 ∙ ap (λ (k : ℕ). k - size / 65536) a ∙ ap (λ (k : ℕ). bias - k / 65536) g)
+          ∙ down z (sym n ∙ t) even (subst (λ (k : ℕ). k / 65536 ≤ bias) g (subst (λ (k : ℕ). size / 65536 ≤ k) a o.0))
 
-      pub number-down : neg ≡ true → size / 65536 ≤ added → added - size / 65536 ≡ number_of (numbered bias z)
-      number-down t l =
-          ap (λ (k : ℕ). k - size / 65536) a ∙ ap (λ (k : ℕ). bias - k / 65536) g
-          ∙ down z (sym n ∙ t) even (subst (λ (k : ℕ). k / 65536 ≤ bias) g (subst (λ (k : ℕ). size / 65536 ≤ k) a l))
-
-      pub number_up : neg ≡ false → size / 65536 + added ≡ number_of (numbered bias z)
-      number_up t = ap (λ (k : ℕ). size / 65536 + k) a ∙ ap (λ (k : ℕ). k / 65536 + bias) g ∙ up z (sym n ∙ t) even
-
--- its rank is that of its number
-pub rank-number : (ws : List ℕ) (q : Ranks) → q.count < 65536 → (o : Option ℕ) (i r : ℕ) → i ≡ number_of o → r ≡ rank_in ws q i → r ≡ rank_at ws q o
-rank-number ws q few o i r e f = f ∙ ap (rank_in ws q) e ∙ by o
-  where
-    by : (o : Option ℕ) → rank_in ws q (number_of o) ≡ rank_at ws q o
-    by None = rw (le-ltb 65536 q.count (omega arith))
-    by (Some k) = refl
+      pub number_up : neg ≡ false → Some (size / 65536 + added) ≡ numbered bias z
+      number_up t = ap (λ (k : ℕ). Some (size / 65536 + k)) a ∙ ap (λ (k : ℕ). Some (k / 65536 + bias)) g ∙ up z (sym n ∙ t) even
 
 -- ---- the new number
 
-pub number-rank : (ws : List ℕ) (q : Ranks) (i : ℕ) → numbers_in ws q i ≡ new_in (rank_in ws q i)
-number-rank ws q i = go (ltb i q.count) (bit_in ws q.at i)
-  where
-    n : ℕ
-    n = count_below (bit_in ws q.at) i
-
-    go : (t u : Bool) → pick t (pick u (Some n) None) None ≡ new_in (pick t (pick u (n + 1) 0) 0)
-    go true true = let e : n + 1 ≡ suc n = omega arith in sym (ap new_in e)
-    go true false = refl
-    go false u = refl
-
-new-rank : (ws : List ℕ) (q : Ranks) (o : Option ℕ) → new_of (numbers_in ws q) o ≡ new_in (rank_at ws q o)
-new-rank ws q None = refl
-new-rank ws q (Some i) = number-rank ws q i
-
-new-below : (r m n : ℕ) → new_in r ≡ Some n → r ≤ m → n < m
-new-below zero m n e h = absurd (zero_one cc)
-new-below (suc k) m n e h = let f : k ≡ n = cc in omega arith
-
 module _ (ws : List ℕ) (q : Ranks) (good : Ranked ws q) where
-  pub rank_below : (o : Option ℕ) → rank_at ws q o ≤ q.reached
-  rank_below None = omega arith
-  rank_below (Some i) =
-      pick_ind (λ (r : ℕ). r ≤ q.reached) (ltb i q.count) (pick (bit_in ws q.at i) (count_below (bit_in ws q.at) i + 1) 0) 0
-      (λ t. pick_ind (λ (r : ℕ). r ≤ q.reached) (bit_in ws q.at i) (count_below (bit_in ws q.at) i + 1) 0
-      (λ u. let b = count-below (bit_in ws q.at) i q.count u (ltb-true i q.count t) in omega (arith, good.reaches)) (λ u. omega arith))
-      (λ t. omega arith)
-
   pub number-below : (i n : ℕ) → numbers_in ws q i ≡ Some n → n < q.reached
-  number-below i n e = new-below (rank_in ws q i) q.reached n (sym (number-rank ws q i) ∙ e) (rank_below (Some i))
+  number-below i n e = go (ltb i q.count) refl (bit_in ws q.at i) refl e
+    where
+      go : (t : Bool) → ltb i q.count ≡ t → (u : Bool) → bit_in ws q.at i ≡ u → pick t (pick u (Some (count_below (bit_in ws q.at) i)) None) None ≡ Some n → n < q.reached
+      go true t true u f =
+          let b = count-below (bit_in ws q.at) i q.count u (ltb-true i q.count t) in
+          let g : count_below (bit_in ws q.at) i ≡ n = cc in
+          omega (arith, good.reaches)
+      go true t false u f = absurd (zero_one cc)
+      go false t u v f = absurd (zero_one cc)
 
   pub operand_reads : (z y : ℤ) → operand_of (numbers_in ws q) (bias_of q.count) (bias_of q.reached) z ≡ Some y → Reading y
   operand_reads z y e = operand_reading (numbers_in ws q) q.count q.reached number-below z y e good.few_reached
 
-  module _ (z : ℤ) (r : ℕ) (e : r ≡ rank_at ws q (numbered (bias_of q.count) z)) where
-    becomes_by : new_of (numbers_in ws q) (numbered (bias_of q.count) z) ≡ new_in r
-    becomes_by = new-rank ws q (numbered (bias_of q.count) z) ∙ ap new_in (sym e)
-
-    pub rank-small : r < 65536
-    rank-small = let k = rank_below (numbered (bias_of q.count) z) in omega (arith, good.few_reached)
-
-    -- and the new number lies near the bias
-    pub rank-near : (b : ℕ) → b ≡ bias_of q.reached → (r ≡ 0 → ⊥) → (r - 1 ≤ b + 32768) × (b ≤ r - 1 + 32768)
-    rank-near b a n = let k = rank_below (numbered (bias_of q.count) z) in bias-near b q.reached (r - 1) a (omega arith) (omega (arith, good.few_reached))
+  module _ (z : ℤ) (r : Option ℕ) (e : r ≡ new_of (numbers_in ws q) (numbered (bias_of q.count) z)) where
+    becomes_by : (x : Option ℕ) → r ≡ x → operand_for (bias_of q.reached) x ≡ operand_of (numbers_in ws q) (bias_of q.count) (bias_of q.reached) z
+    becomes_by x f = ap (operand_for (bias_of q.reached)) (sym f ∙ e)
 
     -- no rank: the renumbering fails
-    pub operand_stuck : r ≡ 0 → Stuck ≡ turn_for (operand_of (numbers_in ws q) (bias_of q.count) (bias_of q.reached) z)
-    operand_stuck f = ap (λ (x : Option ℕ). turn_for (operand_for (bias_of q.reached) x)) (sym (becomes_by ∙ ap new_in f))
+    pub operand_stuck : r ≡ None → Stuck ≡ turn_for (operand_of (numbers_in ws q) (bias_of q.count) (bias_of q.reached) z)
+    operand_stuck f = ap turn_for (becomes_by None f)
 
-    -- the rank less 1 is the new number
-    pub operand_sends : (r ≡ 0 → ⊥) → (b : ℕ) → b ≡ bias_of q.reached → (v : ℤ) → v ≡ rounded (whole (r - 1) b)
-        → Sends (Some v) ≡ turn_for (operand_of (numbers_in ws q) (bias_of q.count) (bias_of q.reached) z)
-    operand_sends n b a v f =
-        let k : suc (r - 1) ≡ r = omega arith in
-        let g : operand_of (numbers_in ws q) (bias_of q.count) (bias_of q.reached) z ≡ Some (whole (r - 1) (bias_of q.reached))
-        = ap (operand_for (bias_of q.reached)) (becomes_by ∙ ap new_in (sym k)) in
-        ap (λ (x : ℤ). Sends (Some x)) (f ∙ ap (λ (k : ℕ). rounded (whole (r - 1) k)) a ∙ (operand_reads z (whole (r - 1) (bias_of q.reached)) g).kept) ∙ ap turn_for (sym g)
+    module _ (n : ℕ) (f : r ≡ Some n) where
+      pub rank-small : n < q.reached
+      rank-small = go (numbered (bias_of q.count) z) (sym e ∙ f)
+        where
+          go : (o : Option ℕ) → new_of (numbers_in ws q) o ≡ Some n → n < q.reached
+          go None k = absurd (zero_one cc)
+          go (Some i) k = number-below i n k
+
+      -- the new number lies near the bias
+      pub rank-near : (b : ℕ) → b ≡ bias_of q.reached → (n ≤ b + 32768) × (b ≤ n + 32768)
+      rank-near b a = bias-near b q.reached n a rank-small (omega (arith, good.few_reached))
+
+      -- the rank is the new number
+      pub operand_sends : (b : ℕ) → b ≡ bias_of q.reached → (v : ℤ) → v ≡ rounded (whole n b)
+          → Sends (Some v) ≡ turn_for (operand_of (numbers_in ws q) (bias_of q.count) (bias_of q.reached) z)
+      operand_sends b a v g =
+          let k = becomes_by (Some n) f in
+          ap (λ (x : ℤ). Sends (Some x)) (g ∙ ap (λ (c : ℕ). rounded (whole n c)) a ∙ (operand_reads z (whole n (bias_of q.reached)) (sym k)).kept) ∙ ap turn_for k
 
 -- the operands of calls are readings
 pub calls-read : (ws : List ℕ) (locals globals : Ranks) → Ranked ws locals → Ranked ws globals → (b : ℕ) (z y : ℤ) → calls_by ws locals globals b z ≡ Some y → Reading y

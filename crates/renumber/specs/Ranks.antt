@@ -1,6 +1,6 @@
 -- The new numbers of subroutines by their bits in the work words (document 02, Wish 7), and what becomes of a call's operand by them (document 01,
 -- 'Corners in write.rs').
-use Rattle.std.specs.Prelude.{ℕ, zero, suc, ◌+◌, ◌≤◌, ◌<◌, ◌≡◌, Bool, List, ltb, eqb, length, None, Option, Some}
+use Rattle.std.specs.Prelude.{ℕ, ◌+◌, ◌≤◌, ◌<◌, ◌≡◌, Bool, List, eqb, length, Option}
 use Rattle.octets.specs.Pick.{pick}
 use Rattle.bits.specs.Bits.{count_below, words_for, bit_in, low_sums, high_sums}
 use Rattle.charstring.specs.Bias.{bias_of}
@@ -12,26 +12,7 @@ use Rattle.renumber.specs.declared.Ranks.{Ranks}
 abbrev pub ranks_at : (ℕ → Bool) → ℕ → ℕ → Ranks
 ranks_at set at count = record { at = at; count = count; reached = count_below set count; low = low_sums set count; high = high_sums set count }
 
--- the rank of a subroutine, plus 1: 0 where there is none
-abbrev pub rank_in : List ℕ → Ranks → ℕ → ℕ
-rank_in ws q i = pick (ltb i q.count) (pick (bit_in ws q.at i) (count_below (bit_in ws q.at) i + 1) 0) 0
-
--- the number of the subroutine that an operand names: 65536, which none has, where it names none
-abbrev pub number_of : Option ℕ → ℕ
-number_of None = 65536
-number_of (Some i) = i
-
--- the rank of the subroutine that an operand names, plus 1
-abbrev pub rank_at : List ℕ → Ranks → Option ℕ → ℕ
-rank_at ws q None = 0
-rank_at ws q (Some i) = rank_in ws q i
-
--- the new number that a rank, plus 1, says: 0 for none
-abbrev pub new_in : ℕ → Option ℕ
-new_in zero = None
-new_in (suc m) = Some m
-
--- the new numbers of subroutines by their bits in the words
+-- the new numbers of subroutines by their bits in the words: their ranks, none for one that is not reached
 abbrev pub numbers_in : List ℕ → Ranks → ℕ → Option ℕ
 numbers_in ws q i = number_in ws q.at q.count i
 

@@ -25,25 +25,25 @@ is_operator b = pick (ltb b 32) (not (eqb b 28)) false
 unfoldable pub is_three_lem : ℕ → Bool
 is_three_lem n = pick (ltb n 1132) false (pick (eqb n 32768) false (ltb n 64405))
 
-unfoldable pub three_len : List ℕ → ℕ → ℕ
-three_len s at = pick (ltb (length s - at) 3) 0 (pick (is_three_lem (get_or s (at + 1) 0 * 256 + get_or s (at + 2) 0)) 3 0)
+unfoldable pub three_len : List ℕ → ℕ → Option ℕ
+three_len s at = pick (ltb (length s - at) 3) None (pick (is_three_lem (get_or s (at + 1) 0 * 256 + get_or s (at + 2) 0)) (Some 3) None)
 
 -- a 16.16 with the halves h and l that is no integer and lies between -256 and 256: rounding to 24 digits leaves it
 unfoldable pub is_five_lem : ℕ → ℕ → Bool
 is_five_lem h l = pick (eqb l 0) false (pick (ltb h 256) true (ltb 65279 h))
 
-unfoldable pub five_len : List ℕ → ℕ → ℕ
+unfoldable pub five_len : List ℕ → ℕ → Option ℕ
 five_len s at =
-    pick (ltb (length s - at) 5) 0
-    (pick (is_five_lem (get_or s (at + 1) 0 * 256 + get_or s (at + 2) 0) (get_or s (at + 3) 0 * 256 + get_or s (at + 4) 0)) 5 0)
+    pick (ltb (length s - at) 5) None
+    (pick (is_five_lem (get_or s (at + 1) 0 * 256 + get_or s (at + 2) 0) (get_or s (at + 3) 0 * 256 + get_or s (at + 4) 0)) (Some 5) None)
 
--- how many bytes the plain token at a place has, 0 where there is none: numbers of one byte and of two are in their shortest form, those of three
+-- how many bytes the plain token at a place has, none where there is none: numbers of one byte and of two are in their shortest form, those of three
 -- and five are taken where they are
-unfoldable pub plain_len : List ℕ → ℕ → ℕ
+unfoldable pub plain_len : List ℕ → ℕ → Option ℕ
 plain_len s at =
     let v = get_or s at 0 in
-    pick (ltb v 32) (pick (eqb v 28) (three_len s at) (pick (is_plain v) 1 0))
-    (pick (ltb v 247) 1 (pick (ltb v 255) (pick (ltb (length s - at) 2) 0 2) (five_len s at)))
+    pick (ltb v 32) (pick (eqb v 28) (three_len s at) (pick (is_plain v) (Some 1) None))
+    (pick (ltb v 247) (Some 1) (pick (ltb v 255) (pick (ltb (length s - at) 2) None (Some 2)) (five_len s at)))
 
 -- the bytes from a place up to another
 abbrev pub part : List ℕ → ℕ → ℕ → List ℕ

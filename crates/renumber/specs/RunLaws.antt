@@ -30,7 +30,7 @@ use Rattle.renumber.specs.Turn.{call_turn, turn_of, held_after, cursor, turned_b
 use Rattle.renumber.specs.TurnLaws.{sent_toks, sent-bytes}
 use Rattle.renumber.specs.BodyLaws.{turning_turn}
 use Rattle.renumber.specs.Run.{is_plain, is_operator, plain_len, part, held_of, held_in, Standing, Passes, RunFrom}
-use Rattle.renumber.specs.ShortLaws.{ShortAt, short-at, operates_told, part-one}
+use Rattle.renumber.specs.ShortLaws.{ShortAt, none_there, short-at, operates_told, part-one}
 use Rattle.renumber.specs.declared.runs.Run.{Run}
 use Rattle.renumber.specs.declared.turns.Turn.{Turn}
 use Rattle.renumber.specs.declared.turns.Turn.TheVariants.{Sends}
@@ -199,7 +199,7 @@ passes-held : {s : List ℕ} {c : Cursor} {h : Option ℤ} {d : Cursor} {g k : O
 passes-held {s} {c} {h} {d} {g} {k} {bs} e p = subst (λ (x : Option ℤ). Passes s c h d x bs) e p
 
 module _ (s : List ℕ) (b : Octets s) (c : Cursor) (at last args stems : ℕ) (w : Running s c (run_of at last args stems)) (h : at < length s) (n : ℕ)
-    (e : n ≡ plain_len s at) (some : n ≡ 0 → ⊥) where
+    (e : Some n ≡ plain_len s at) where
   from_at : c.at ≤ at
   from_at = omega (arith, w.run.starts, w.run.ends)
 
@@ -210,7 +210,7 @@ module _ (s : List ℕ) (b : Octets s) (c : Cursor) (at last args stems : ℕ) (
     where
       go : (t : Bool) → is_plain (get_or s at 0) ≡ t → t ≡ true
       go true f = refl
-      go false f = absurd (some (e ∙ rw (lt-ltb (get_or s at 0) 32 low, f, ne_eqb (get_or s at 0) 28 d)))
+      go false f = none_there n (e ∙ rw (lt-ltb (get_or s at 0) 32 low, f, ne_eqb (get_or s at 0) 28 d))
 
   pub running_operator : is_operator (get_or s at 0) ≡ true → (k : ℕ) → k ≡ stems_after (get_or s at 0) args stems → Running s c (run_of (at + 1) (at + 1) 0 k)
   unfolding Carries
@@ -259,7 +259,7 @@ module _ (s : List ℕ) (b : Octets s) (c : Cursor) (at last args stems : ℕ) (
   }
     where
       short : ShortAt s at (at + n)
-      short = short-at s at b h begins n e some
+      short = short-at s at b h begins n e
 
       held : Option ℤ
       held = Some short.value

@@ -1,6 +1,7 @@
 -- A number of one byte or of two stands in its shortest form: it is written as it was read; one of three bytes or of five where no shorter form has it and
 -- rounding leaves it.
-use Rattle.std.specs.Prelude.{ℕ, suc, ◌+◌, ◌-◌, ◌*◌, ◌/◌, ◌%◌, ◌≤◌, ◌<◌, ◌≡◌, Bool, not, List, [], ◌∷◌, ℤ, pos, negsuc, neg_ℤ, length, take, drop, ltb, eqb}
+use Rattle.std.specs.Prelude.{ℕ, suc, ◌+◌, ◌-◌, ◌*◌, ◌/◌, ◌%◌, ◌≤◌, ◌<◌, ◌≡◌, Bool, not, List, [], ◌∷◌, ℤ, pos, negsuc, neg_ℤ, length, take, drop, ltb, eqb, None, Option, Some}
+use Rattle.std.specs.Bool.{then_some}
 use Rattle.std.proofs.Math.Path.{refl, sym, ap, subst}
 use Rattle.std.proofs.Common.{◌∙◌, drop-cons}
 use Rattle.std.proofs.Math.Bool.{true, false}
@@ -17,6 +18,7 @@ use Rattle.type2_number.specs.NumberLaws.{OperatorByte, long, form_28, form_1, f
 use Rattle.type2_number.specs.Rounding.{keep-small, rounded-neg, rounded_pos}
 use Rattle.type2_number.specs.EncodingLaws.{one-neg, one_pos, two-neg, two_pos, three-neg, three_pos, fixed-neg, fixed_pos, encoded-fraction, encoded-integer}
 use Rattle.prune.specs.OperandLaws.{whole-up, whole-down, whole-reading}
+use Rattle.prune.specs.StepLaws.{zero_one}
 use Rattle.renumber.specs.Run.{is_plain, is_operator, is_three_lem, is_five_lem, three_len, five_len, plain_len, part}
 
 -- a number that stands up to n as it is written
@@ -165,60 +167,64 @@ part_five s at h =
 
 -- ---- how long a plain token is, as the code finds it
 
+pub none_there : {A : Type 0} (n : ℕ) → Some n ≡ None → A
+none_there n e = absurd (zero_one cc)
+
+as_pick : (t : Bool) (n : ℕ) → then_some t n ≡ pick t (Some n) None
+as_pick true n = refl
+as_pick false n = refl
+
 module _ (s : List ℕ) (at : ℕ) where
-  pub plain-three : get_or s at 0 ≡ 28 → (n : ℕ) → n ≡ three_len s at → n ≡ plain_len s at
+  pub plain-three : get_or s at 0 ≡ 28 → (n : Option ℕ) → n ≡ three_len s at → n ≡ plain_len s at
   unfolding plain_len
   plain-three v n e = let l : get_or s at 0 < 32 = omega arith in rw (lt-ltb (get_or s at 0) 32 l, eq-eqb (get_or s at 0) 28 v) e
 
-  pub plain-operator : get_or s at 0 < 32 → (get_or s at 0 ≡ 28 → ⊥) → (t : Bool) → t ≡ is_plain (get_or s at 0) → t ≡ true → 1 ≡ plain_len s at
+  pub plain-operator : get_or s at 0 < 32 → (get_or s at 0 ≡ 28 → ⊥) → (t : Bool) → t ≡ is_plain (get_or s at 0) → then_some t 1 ≡ plain_len s at
   unfolding plain_len
-  plain-operator l d t e f = rw (lt-ltb (get_or s at 0) 32 l, sym e ∙ f, ne_eqb (get_or s at 0) 28 d)
+  plain-operator l d t e = rw (lt-ltb (get_or s at 0) 32 l, sym e, ne_eqb (get_or s at 0) 28 d) (as_pick t 1)
 
-  pub plain_other : get_or s at 0 < 32 → (get_or s at 0 ≡ 28 → ⊥) → (t : Bool) → t ≡ is_plain (get_or s at 0) → t ≡ false → 0 ≡ plain_len s at
-  unfolding plain_len
-  plain_other l d t e f = rw (lt-ltb (get_or s at 0) 32 l, sym e ∙ f, ne_eqb (get_or s at 0) 28 d)
-
-  pub plain-one : 32 ≤ get_or s at 0 → get_or s at 0 < 247 → 1 ≡ plain_len s at
+  pub plain-one : 32 ≤ get_or s at 0 → get_or s at 0 < 247 → Some 1 ≡ plain_len s at
   unfolding plain_len
   plain-one l k = rw (le-ltb (get_or s at 0) 32 l, lt-ltb (get_or s at 0) 247 k)
 
-  pub plain-cut : 247 ≤ get_or s at 0 → get_or s at 0 < 255 → length s - at < 2 → 0 ≡ plain_len s at
+  pub plain-cut : 247 ≤ get_or s at 0 → get_or s at 0 < 255 → length s - at < 2 → None ≡ plain_len s at
   unfolding plain_len
   plain-cut l k m =
       let q : 32 ≤ get_or s at 0 = omega arith in
       rw (le-ltb (get_or s at 0) 32 q, le-ltb (get_or s at 0) 247 l, lt-ltb (get_or s at 0) 255 k, lt-ltb (length s - at) 2 m)
 
-  pub plain-two : 247 ≤ get_or s at 0 → get_or s at 0 < 255 → 2 ≤ length s - at → 2 ≡ plain_len s at
+  pub plain-two : 247 ≤ get_or s at 0 → get_or s at 0 < 255 → 2 ≤ length s - at → Some 2 ≡ plain_len s at
   unfolding plain_len
   plain-two l k m =
       let q : 32 ≤ get_or s at 0 = omega arith in
       rw (le-ltb (get_or s at 0) 32 q, le-ltb (get_or s at 0) 247 l, lt-ltb (get_or s at 0) 255 k, le-ltb (length s - at) 2 m)
 
-  pub plain_five : 255 ≤ get_or s at 0 → (n : ℕ) → n ≡ five_len s at → n ≡ plain_len s at
+  pub plain_five : 255 ≤ get_or s at 0 → (n : Option ℕ) → n ≡ five_len s at → n ≡ plain_len s at
   unfolding plain_len
   plain_five l n e =
       let q : 32 ≤ get_or s at 0 = omega arith in
       let p : 247 ≤ get_or s at 0 = omega arith in
       rw (le-ltb (get_or s at 0) 32 q, le-ltb (get_or s at 0) 247 p, le-ltb (get_or s at 0) 255 l) e
 
-  pub three-cut : length s - at < 3 → 0 ≡ three_len s at
+  pub three-cut : length s - at < 3 → None ≡ three_len s at
   unfolding three_len
   three-cut l = rw (lt-ltb (length s - at) 3 l)
 
-  pub three-told : 3 ≤ length s - at → (t u : Bool) (n : ℕ) → t ≡ is_three_lem n → t ≡ u → n ≡ get_or s (at + 1) 0 * 256 + get_or s (at + 2) 0 → pick u 3 0 ≡ three_len s at
+  pub three-told : 3 ≤ length s - at → (t : Bool) (n : ℕ) → t ≡ is_three_lem n → n ≡ get_or s (at + 1) 0 * 256 + get_or s (at + 2) 0 → then_some t 3 ≡ three_len s at
   unfolding three_len
-  three-told l t u n f g e = rw (le-ltb (length s - at) 3 l) (ap (λ (x : Bool). pick x 3 0) (sym g ∙ f ∙ ap is_three_lem e))
+  three-told l t n f e = rw (le-ltb (length s - at) 3 l) (as_pick t 3 ∙ ap (λ (x : Bool). pick x (Some 3) None) (f ∙ ap is_three_lem e))
 
-  pub five_cut : length s - at < 5 → 0 ≡ five_len s at
+  pub five_cut : length s - at < 5 → None ≡ five_len s at
   unfolding five_len
   five_cut l = rw (lt-ltb (length s - at) 5 l)
 
-  pub five_told : 5 ≤ length s - at → (t u : Bool) (h l : ℕ) → t ≡ is_five_lem h l → t ≡ u → h ≡ get_or s (at + 1) 0 * 256 + get_or s (at + 2) 0
-      → l ≡ get_or s (at + 3) 0 * 256 + get_or s (at + 4) 0 → pick u 5 0 ≡ five_len s at
+  pub five_told : 5 ≤ length s - at → (t : Bool) (h l : ℕ) → t ≡ is_five_lem h l → h ≡ get_or s (at + 1) 0 * 256 + get_or s (at + 2) 0
+      → l ≡ get_or s (at + 3) 0 * 256 + get_or s (at + 4) 0 → then_some t 5 ≡ five_len s at
   unfolding five_len
-  five_told k t u h l f j e g =
+  five_told k t h l f e g =
       rw (le-ltb (length s - at) 5 k)
-      (ap (λ (x : Bool). pick x 5 0) (sym j ∙ f ∙ ap (λ (x : ℕ). is_five_lem x l) e ∙ ap (is_five_lem (get_or s (at + 1) 0 * 256 + get_or s (at + 2) 0)) g))
+      (as_pick t 5
+      ∙ ap (λ (x : Bool). pick x (Some 5) None) (f ∙ ap (λ (x : ℕ). is_five_lem x l) e ∙ ap (is_five_lem (get_or s (at + 1) 0 * 256 + get_or s (at + 2) 0)) g))
 
 -- ---- what the tests of a first byte and of longer numbers tell
 
@@ -393,45 +399,44 @@ module _ (s : List ℕ) (at : ℕ) (b : Octets s) (h : at < length s) where
           (ap encoded e ∙ down-fraction x (hi * 65536 + lo) sum (λ z. facts.0 (omega (arith, low, sum))))
 
   -- a number by its first byte, and how many bytes it has
-  from-three : get_or s at 0 ≡ 28 → (n : ℕ) → n ≡ three_len s at → (n ≡ 0 → ⊥) → ShortAt s at (at + n)
+  as_long : {n m : ℕ} → Some n ≡ Some m → ShortAt s at (at + m) → ShortAt s at (at + n)
+  as_long {n} {m} e k = let f : m ≡ n = cc in subst (λ (x : ℕ). ShortAt s at (at + x)) f k
+
+  from-three : get_or s at 0 ≡ 28 → (n : ℕ) → Some n ≡ three_len s at → ShortAt s at (at + n)
   unfolding three_len
-  from-three v n e k = go (dec_lt (length s - at) 3) (is_three_lem (get_or s (at + 1) 0 * 256 + get_or s (at + 2) 0)) refl
+  from-three v n e = go (dec_lt (length s - at) 3) (is_three_lem (get_or s (at + 1) 0 * 256 + get_or s (at + 2) 0)) refl
     where
       go : Dec (length s - at < 3) → (t : Bool) → is_three_lem (get_or s (at + 1) 0 * 256 + get_or s (at + 2) 0) ≡ t → ShortAt s at (at + n)
-      go (yes p) t q = absurd (k (e ∙ rw (lt-ltb (length s - at) 3 p)))
-      go (no p) false q = absurd (k (e ∙ rw (le-ltb (length s - at) 3 (omega arith)) (ap (λ (u : Bool). pick u 3 0) q)))
-      go (no p) true q =
-          let f : n ≡ 3 = e ∙ rw (le-ltb (length s - at) 3 (omega arith)) (ap (λ (u : Bool). pick u 3 0) q) in
-          subst (λ (m : ℕ). ShortAt s at (at + m)) (sym f) (short-three v (omega arith) q)
+      go (yes p) t q = none_there _ (e ∙ rw (lt-ltb (length s - at) 3 p))
+      go (no p) false q = none_there _ (e ∙ rw (le-ltb (length s - at) 3 (omega arith)) (ap (λ (u : Bool). pick u (Some 3) None) q))
+      go (no p) true q = as_long (e ∙ rw (le-ltb (length s - at) 3 (omega arith)) (ap (λ (u : Bool). pick u (Some 3) None) q)) (short-three v (omega arith) q)
 
-  from_five : 255 ≤ get_or s at 0 → (n : ℕ) → n ≡ five_len s at → (n ≡ 0 → ⊥) → ShortAt s at (at + n)
+  from_five : 255 ≤ get_or s at 0 → (n : ℕ) → Some n ≡ five_len s at → ShortAt s at (at + n)
   unfolding five_len
-  from_five v n e k = go (dec_lt (length s - at) 5) (is_five_lem (get_or s (at + 1) 0 * 256 + get_or s (at + 2) 0) (get_or s (at + 3) 0 * 256 + get_or s (at + 4) 0)) refl
+  from_five v n e = go (dec_lt (length s - at) 5) (is_five_lem (get_or s (at + 1) 0 * 256 + get_or s (at + 2) 0) (get_or s (at + 3) 0 * 256 + get_or s (at + 4) 0)) refl
     where
       go : Dec (length s - at < 5) → (t : Bool) → is_five_lem (get_or s (at + 1) 0 * 256 + get_or s (at + 2) 0) (get_or s (at + 3) 0 * 256 + get_or s (at + 4) 0) ≡ t
           → ShortAt s at (at + n)
-      go (yes p) t q = absurd (k (e ∙ rw (lt-ltb (length s - at) 5 p)))
-      go (no p) false q = absurd (k (e ∙ rw (le-ltb (length s - at) 5 (omega arith)) (ap (λ (u : Bool). pick u 5 0) q)))
-      go (no p) true q =
-          let f : n ≡ 5 = e ∙ rw (le-ltb (length s - at) 5 (omega arith)) (ap (λ (u : Bool). pick u 5 0) q) in
-          subst (λ (m : ℕ). ShortAt s at (at + m)) (sym f) (short_five v (omega arith) q)
+      go (yes p) t q = none_there _ (e ∙ rw (lt-ltb (length s - at) 5 p))
+      go (no p) false q = none_there _ (e ∙ rw (le-ltb (length s - at) 5 (omega arith)) (ap (λ (u : Bool). pick u (Some 5) None) q))
+      go (no p) true q = as_long (e ∙ rw (le-ltb (length s - at) 5 (omega arith)) (ap (λ (u : Bool). pick u (Some 5) None) q)) (short_five v (omega arith) q)
 
-  from-high : 32 ≤ get_or s at 0 → (n : ℕ) → n ≡ plain_len s at → (n ≡ 0 → ⊥) → ShortAt s at (at + n)
-  from-high l n e k = go (dec_lt (get_or s at 0) 247) (dec_lt (get_or s at 0) 255) (dec_lt (length s - at) 2)
+  from-high : 32 ≤ get_or s at 0 → (n : ℕ) → Some n ≡ plain_len s at → ShortAt s at (at + n)
+  from-high l n e = go (dec_lt (get_or s at 0) 247) (dec_lt (get_or s at 0) 255) (dec_lt (length s - at) 2)
     where
       go : Dec (get_or s at 0 < 247) → Dec (get_or s at 0 < 255) → Dec (length s - at < 2) → ShortAt s at (at + n)
-      go (yes p) q r = subst (λ (m : ℕ). ShortAt s at (at + m)) (plain-one s at l p ∙ sym e) (short-one l p)
-      go (no p) (yes q) (no r) = subst (λ (m : ℕ). ShortAt s at (at + m)) (plain-two s at (omega arith) q (omega arith) ∙ sym e) (short-two (omega arith) q (omega arith))
-      go (no p) (yes q) (yes r) = absurd (k (e ∙ sym (plain-cut s at (omega arith) q r)))
-      go (no p) (no q) r = let v : 255 ≤ get_or s at 0 = omega arith in from_five v n (e ∙ sym (plain_five s at v (five_len s at) refl)) k
+      go (yes p) q r = as_long (e ∙ sym (plain-one s at l p)) (short-one l p)
+      go (no p) (yes q) (no r) = as_long (e ∙ sym (plain-two s at (omega arith) q (omega arith))) (short-two (omega arith) q (omega arith))
+      go (no p) (yes q) (yes r) = none_there _ (e ∙ sym (plain-cut s at (omega arith) q r))
+      go (no p) (no q) r = let v : 255 ≤ get_or s at 0 = omega arith in from_five v n (e ∙ sym (plain_five s at v (five_len s at) refl))
 
   -- a byte that is no operator begins a number
-  pub short-at : is_operator (get_or s at 0) ≡ false → (n : ℕ) → n ≡ plain_len s at → (n ≡ 0 → ⊥) → ShortAt s at (at + n)
-  short-at o n e k = go (dec_lt (get_or s at 0) 32)
+  pub short-at : is_operator (get_or s at 0) ≡ false → (n : ℕ) → Some n ≡ plain_len s at → ShortAt s at (at + n)
+  short-at o n e = go (dec_lt (get_or s at 0) 32)
     where
       go : Dec (get_or s at 0 < 32) → ShortAt s at (at + n)
-      go (no p) = from-high (omega arith) n e k
+      go (no p) = from-high (omega arith) n e
       go (yes p) =
           let t : eqb (get_or s at 0) 28 ≡ true = not-false _ (sym (ap (λ (u : Bool). pick u (not (eqb (get_or s at 0) 28)) false) (lt-ltb (get_or s at 0) 32 p)) ∙ o) in
           let v = eqb-true (get_or s at 0) 28 t in
-          from-three v n (e ∙ sym (plain-three s at v (three_len s at) refl)) k
+          from-three v n (e ∙ sym (plain-three s at v (three_len s at) refl))

@@ -9,7 +9,7 @@ use Rattle.charstring.specs.declared.Token.TheVariants.{Num, Op, Esc, Mask}
 use Rattle.charstring.specs.declared.Cursor.{Cursor}
 use Rattle.unfold.specs.Unfold.{Row}
 use Rattle.prune.specs.Renumber.{Calls, is_call}
-use Rattle.reach.specs.declared.Site.{Site}
+use Rattle.unfold.specs.declared.Site.{Site}
 use Rattle.reach.specs.Reach.{rises}
 use Rattle.renumber.specs.Ranks.{Ranked}
 use Rattle.renumber.specs.declared.Ranks.{Ranks}

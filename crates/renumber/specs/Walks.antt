@@ -10,7 +10,7 @@ use Rattle.charstring.specs.Answers.{step_of, given_at}
 use Rattle.charstring.specs.TokensLaws.{Next}
 use Rattle.prune.specs.RenumberSteps.{renumbered_tokens}
 use Rattle.record.specs.Record.{rows_of}
-use Rattle.reach.specs.Reach.{site_of}
+use Rattle.unfold.specs.Sites.{site_of}
 use Rattle.renumber.specs.OperandLaws.{calls-read}
 use Rattle.renumber.specs.Turn.{cursor, held_after, turned_at, held_bytes_lem, sent_bytes, held_len_lem, own_len, sized_of, body_of_lem, is_yes, a_turn}
 use Rattle.renumber.specs.BodyLaws.{Turning, Sizing, Putting, turning_next, sizing_start, sized-room, sized_end, sizing_turn, sized_failed, putting_start, putting_room, putting_turn, putting_failed, put_end_room, put_end, whole-body}

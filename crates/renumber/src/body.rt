@@ -6,7 +6,7 @@ ghost use Rattle.renumber.specs.Turn.{Inputs};
 ghost use Rattle.renumber.specs.Alone.{inputs_prop};
 
 use crate::Ranks;
-use reach::Site;
+use unfold::Site;
 
 // `rising` says that the rows stand in order; the site is what the record calls the body.
 #[derive(Clone, Copy)]

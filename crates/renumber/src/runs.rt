@@ -66,19 +66,16 @@ fn is_three(n: usize) -> bool
     n < 64405
 }
 
-// How many bytes the number of three bytes at a place has, 0 where it is cut off or not written as it was read.
-fn three_len(p: &Place<'_>) -> usize
+// How many bytes the number of three bytes at a place has, none where it is cut off or not written as it was read.
+fn three_len(p: &Place<'_>) -> Option<usize>
     ensures { result ≡ three_len p.now.code.now p.now.at }
 {
     let at = p.at;
     if p.code.len() - at < 3 {
-        return 0;
+        return None;
     }
     let n = usize::from(p.code[at + 1]) * 256 + usize::from(p.code[at + 2]);
-    if is_three(n) {
-        return 3;
-    }
-    0
+    is_three(n).then_some(3)
 }
 
 // Whether a 16.16 with these halves is written as it was read: no integer, between -256 and 256.
@@ -95,23 +92,20 @@ fn is_five(high: usize, low: usize) -> bool
 }
 
 // The same for the number of five bytes at a place.
-fn five_len(p: &Place<'_>) -> usize
+fn five_len(p: &Place<'_>) -> Option<usize>
     ensures { result ≡ five_len p.now.code.now p.now.at }
 {
     let at = p.at;
     if p.code.len() - at < 5 {
-        return 0;
+        return None;
     }
     let high = usize::from(p.code[at + 1]) * 256 + usize::from(p.code[at + 2]);
     let low = usize::from(p.code[at + 3]) * 256 + usize::from(p.code[at + 4]);
-    if is_five(high, low) {
-        return 5;
-    }
-    0
+    is_five(high, low).then_some(5)
 }
 
-// How many bytes the plain token at a place has, 0 where there is none.
-fn plain_len(p: &Place<'_>) -> usize
+// How many bytes the plain token at a place has, none where there is none.
+fn plain_len(p: &Place<'_>) -> Option<usize>
     ensures { result ≡ plain_len p.now.code.now p.now.at }
 {
     let v = p.code[p.at];
@@ -119,19 +113,16 @@ fn plain_len(p: &Place<'_>) -> usize
         if v == 28 {
             return three_len(p);
         }
-        if is_plain(v) {
-            return 1;
-        }
-        return 0;
+        return is_plain(v).then_some(1);
     }
     if v < 247 {
-        return 1;
+        return Some(1);
     }
     if v < 255 {
         if p.code.len() - p.at < 2 {
-            return 0;
+            return None;
         }
-        return 2;
+        return Some(2);
     }
     five_len(p)
 }
@@ -146,15 +137,9 @@ fn plain_run(code: &[u8], from: usize, args: usize, stems: usize) -> Run
     let mut args = args;
     let mut stems = stems;
     while at < code.len() {
-        let n = plain_len(&Place { code, at });
-        if n == 0 {
-            return Run {
-                at,
-                last,
-                args,
-                stems,
-            };
-        }
+        let Some(n) = plain_len(&Place { code, at }) else {
+            break;
+        };
         let v = code[at];
         if is_operator(v) {
             stems = stems_after(v, args, stems);

@@ -6,7 +6,8 @@ ghost use Rattle.bits.specs.Bits.{count_below, bit_in};
 ghost use Rattle.charstring.specs.Answers.{Measurable};
 ghost use Rattle.charstring.specs.Bias.{bias_of, numbered};
 ghost use Rattle.prune.specs.Renumber.{operand_of, is_call};
-ghost use Rattle.renumber.specs.Ranks.{rank_in, number_of, rank_at, numbers_in, calls_by, Ranked};
+ghost use Rattle.prune.specs.RenumberSteps.{new_of};
+ghost use Rattle.renumber.specs.Ranks.{numbers_in, calls_by, Ranked};
 ghost use Rattle.renumber.specs.Turn.{turn_for, call_turn, turn_of, after, held_after};
 
 use crate::Ranks;
@@ -33,49 +34,47 @@ fn rank_below(of: &Ranking<'_>, i: usize) -> usize
     bits::rank(of.words, q.at, i, from, sum)
 }
 
-// The rank of a subroutine by its old number, plus 1: 0 where there is none, or it is not reached. Where all are reached, each keeps its number.
-fn rank_in(of: &Ranking<'_>, i: usize) -> usize
-    ensures { result ≡ rank_in of.now.words.now of.now.q i }
+// The rank of a subroutine by its old number: none where there is no such subroutine, or it is not reached. Where all are reached, each keeps its
+// number.
+fn rank_in(of: &Ranking<'_>, i: usize) -> Option<usize>
+    ensures { result ≡ numbers_in of.now.words.now of.now.q i }
 {
     let q = of.q;
     if q.count <= i {
-        return 0;
+        return None;
     }
     if q.reached == q.count {
-        return i + 1;
+        return Some(i);
     }
     if bits::has_bit(of.words, q.at, i) {
-        return rank_below(of, i) + 1;
+        return Some(rank_below(of, i));
     }
-    0
+    None
 }
 
-// The number of the subroutine that an operand calls, of so many: 65536, which none has, where it calls none.
-fn number_at(count: usize, v: Operand) -> usize
-    ensures { result ≡ number_of (numbered (bias_of count) v) }
+// The number of the subroutine that an operand calls, of so many, if it calls one.
+fn number_at(count: usize, v: Operand) -> Option<usize>
+    ensures { result ≡ numbered (bias_of count) v }
 {
     let s = count_of(v);
     let neg = s.neg;
     let size = s.size;
     let added = bias(count);
     if size % 65536 != 0 {
-        return 65536;
+        return None;
     }
     let i = size / 65536;
     if neg {
-        if added < i {
-            return 65536;
-        }
-        return added - i;
+        return added.checked_sub(i);
     }
-    i + added
+    Some(i + added)
 }
 
-// The rank of the subroutine that an operand calls, plus 1: 0 where it calls none.
-fn rank_at(of: &Ranking<'_>, v: Operand) -> usize
-    ensures { result ≡ rank_at of.now.words.now of.now.q (numbered (bias_of of.now.q.count) v) }
+// The rank of the subroutine that an operand calls, if it calls one that is reached.
+fn rank_at(of: &Ranking<'_>, v: Operand) -> Option<usize>
+    ensures { result ≡ new_of (numbers_in of.now.words.now of.now.q) (numbered (bias_of of.now.q.count) v) }
 {
-    rank_in(of, number_at(of.q.count, v))
+    rank_in(of, number_at(of.q.count, v)?)
 }
 
 // What a token brings: the renumbering fails, or the number that is written just before the token.
@@ -90,11 +89,10 @@ pub enum Turn {
 fn new_operand(of: &Ranking<'_>, v: Operand) -> Turn
     ensures { result ≡ turn_for (operand_of (numbers_in of.now.words.now of.now.q) (bias_of of.now.q.count) (bias_of of.now.q.reached) v) }
 {
-    let rank = rank_at(of, v);
-    if rank == 0 {
-        return Turn::Stuck;
+    match rank_at(of, v) {
+        None => Turn::Stuck,
+        Some(rank) => Turn::Sends(Some(whole(rank, bias(of.q.reached)))),
     }
-    Turn::Sends(Some(whole(rank - 1, bias(of.q.reached))))
 }
 
 // A call: it takes the number just before it.

@@ -7,7 +7,8 @@ ghost use Rattle.octets.specs.Out.{Writes};
 ghost use Rattle.charstring.specs.Token.{more};
 ghost use Rattle.charstring.specs.Answers.{given_at, Within, Writable};
 ghost use Rattle.record.specs.Record.{rows_of, given_in, two_lengths_lem};
-ghost use Rattle.reach.specs.Reach.{site_of, rises};
+ghost use Rattle.unfold.specs.Sites.{site_of};
+ghost use Rattle.reach.specs.Reach.{rises};
 ghost use Rattle.renumber.specs.Turn.{cursor, held_bytes_lem, sent_bytes, held_len_lem, own_len, sized_of, body_of_lem, is_yes};
 ghost use Rattle.renumber.specs.Run.{run_bytes};
 ghost use Rattle.renumber.specs.Bodies.{renumbered_of, turned_of};
@@ -15,13 +16,13 @@ ghost use Rattle.renumber.specs.Walks.{Turns};
 
 use charstring::{Cursor, MaskLen, Token, more, next_token, put_token, start};
 use octets::out::Out;
-use reach::Site;
 use reach::rows::Rows;
 use renumber::Turned;
 use renumber::body::Body;
 use renumber::runs::{held_at, run_at};
 use renumber::turns::{Turn, held_after, turn_of};
 use type2_number::{Operand, number_len, put_number};
+use unfold::Site;
 
 // How many bytes the number that was held takes.
 pub fn held_len(h: Option<Operand>) -> usize
@@ -210,7 +211,8 @@ pub fn renumbered_len(body: &Body<'_>) -> Option<usize>
     body_len(body)
 }
 
-// A body renumbered.
+// A body renumbered. (It stays apart from `body_len`: measuring goes on to where renumbering fails, and writing asks that it does not fail. One walk
+// for both would need room for what was sent before a failure, of which no definition speaks.)
 pub fn put_renumbered(body: &Body<'_>, out: &mut Out<'_>)
     requires { (is_yes (renumbered_of body.now) ≡ true) × (out.old.at + length (body_of_lem (renumbered_of body.now)) ≤ length out.old.bytes.now) }
     ensures { Writes out.old (body_of_lem (renumbered_of body.now)) out.new }

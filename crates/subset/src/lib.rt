@@ -2,7 +2,7 @@
 #![tactic(auto)]
 
 ghost use Rattle.std.specs.Prelude.{◌≡◌};
-ghost use Rattle.subset.specs.Way.{is_renumbered, is_stubbed, way_number};
+ghost use Rattle.subset.specs.Way.{way_number};
 
 // How a subset has its bodies: renumbered, stubbed where that fails, or copied where the glyphs could not be traced.
 #[derive(Clone, Copy, PartialEq, Eq)]
@@ -13,26 +13,6 @@ pub enum Way {
 }
 
 impl Way {
-    pub fn is_renumbered(self) -> bool
-        ensures { result ≡ is_renumbered self }
-    {
-        match self {
-            Way::Renumbered => true,
-            Way::Stubbed => false,
-            Way::Copied => false,
-        }
-    }
-
-    pub fn is_stubbed(self) -> bool
-        ensures { result ≡ is_stubbed self }
-    {
-        match self {
-            Way::Renumbered => false,
-            Way::Stubbed => true,
-            Way::Copied => false,
-        }
-    }
-
     // Its number in an answer (document 01).
     pub fn number(self) -> u8
         ensures { result ≡ way_number self }

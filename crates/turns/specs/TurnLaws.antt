@@ -32,14 +32,14 @@ target_below : (count : ℕ) (l : Option ℤ) → Below count (target_of count l
 unfolding target_of
 target_below count l = and_ind (Below count) (and l (numbered (bias_of count))) _ tt (named count)
 
--- what a turn says: on behind its token and within the body, a mask of at most 12 bytes within it, a subroutine that is there; few operands and stems
+-- what a turn says: on behind its token and within the body, a mask of at most 12 bytes within it, a subroutine that is there
 abbrev pub Sound : ℕ → ℕ → List ℕ → ℕ → Turn → Type 0
 Sound locals globals s at Breaks = Unit
-Sound locals globals s at (Returns y) = Few y
+Sound locals globals s at (Returns y) = Unit
 Sound locals globals s at Ends = Unit
-Sound locals globals s at (Goes n p y) = (at < n) × (n ≤ length s) × (Few y)
-Sound locals globals s at (Masks len y) = (len ≤ 12) × (at + 1 + len ≤ length s) × (Few y)
-Sound locals globals s at (Calls wide i y) = (i < pick wide globals locals) × (Few y)
+Sound locals globals s at (Goes n p y) = (at < n) × (n ≤ length s)
+Sound locals globals s at (Masks len y) = (len ≤ 12) × (at + 1 + len ≤ length s)
+Sound locals globals s at (Calls wide i y) = i < pick wide globals locals
 
 module _ (locals globals : ℕ) (s : List ℕ) (at : ℕ) (h : at < length s) where
   abbrev S : Turn → Type 0
@@ -48,21 +48,21 @@ module _ (locals globals : ℕ) (s : List ℕ) (at : ℕ) (h : at < length s) wh
   leaves_sound : (args stems spent : ℕ) (go : Counts → Turn) → S (go (record { args = args; stems = stems; spent = spent + 1 })) → S (leaves args stems spent go)
   leaves_sound args stems spent go p = pick_ind S (ltb spent 65536) _ Breaks (λ t. p) (λ t. tt)
 
-  goes_sound : (n p args stems spent : ℕ) → at < n → n ≤ length s → args ≤ 48 → stems ≤ 96 → S (goes_on n p args stems spent)
-  goes_sound n p args stems spent i j a b = leaves_sound args stems spent (Goes n p) (i, j, record { operands = a; hints = b })
+  goes_sound : (n p args stems spent : ℕ) → at < n → n ≤ length s → S (goes_on n p args stems spent)
+  goes_sound n p args stems spent i j = leaves_sound args stems spent (Goes n p) (i, j)
 
-  call_sound : (wide : Bool) (x : Counts) → Few x → (q : Option ℕ) → Below (pick wide globals locals) q → S (call_turn wide x q)
-  call_sound wide x f None b = tt
-  call_sound wide x f (Some i) b = (b, record { operands = omega arith; hints = f.hints })
+  call_sound : (wide : Bool) (x : Counts) (q : Option ℕ) → Below (pick wide globals locals) q → S (call_turn wide x q)
+  call_sound wide x None b = tt
+  call_sound wide x (Some i) b = b
 
-  escape_sound : (x : Counts) → Few x → S (escape_turn s at x)
-  escape_sound x f =
+  escape_sound : (x : Counts) → S (escape_turn s at x)
+  escape_sound x =
       let e = get_or s (at + 1) 0 in
       pick_ind S (ltb (length s - at) 2) Breaks _ (λ t. tt)
       (λ t. let k = ltb-false (length s - at) 2 t in
       pick_ind S (ltb e 34) Breaks _ (λ t. tt)
       (λ u. pick_ind S (ltb 37 e) Breaks _ (λ v. tt)
-      (λ v. goes_sound (at + 2) (at + 2) 0 x.stems x.spent (omega arith) (omega arith) (omega arith) f.hints)))
+      (λ v. goes_sound (at + 2) (at + 2) 0 x.stems x.spent (omega arith) (omega arith))))
 
   mask_sound : (n spent : ℕ) → S (mask_turn s at n spent)
   mask_sound n spent =
@@ -70,40 +70,100 @@ module _ (locals globals : ℕ) (s : List ℕ) (at : ℕ) (h : at < length s) wh
       (λ t. let k = ltb-false 96 n t in
       pick_ind S (ltb (length s - (at + 1)) ((n + 7) / 8)) Breaks _ (λ t. tt)
       (λ u. let l = ltb-false (length s - (at + 1)) ((n + 7) / 8) u in
-      leaves_sound 0 n spent (Masks ((n + 7) / 8)) (omega arith, omega arith, record { operands = omega arith; hints = omega arith })))
+      leaves_sound 0 n spent (Masks ((n + 7) / 8)) (omega arith, omega arith)))
 
   stem_sound : (n spent : ℕ) → S (stem_turn at n spent)
-  stem_sound n spent =
-      pick_ind S (ltb 96 n) Breaks _ (λ t. tt)
-      (λ t. let k = ltb-false 96 n t in goes_sound (at + 1) (at + 1) 0 n spent (omega arith) (omega arith) (omega arith) (omega arith))
+  stem_sound n spent = pick_ind S (ltb 96 n) Breaks _ (λ t. tt) (λ t. goes_sound (at + 1) (at + 1) 0 n spent (omega arith) (omega arith))
 
-  clearing_sound : (x : Counts) (b : ℕ) → Few x → S (clearing_turn_lem s at x b)
+  clearing_sound : (x : Counts) (b : ℕ) → S (clearing_turn_lem s at x b)
   unfolding clearing_turn_lem
-  clearing_sound x b f =
-      pick_ind S (eqb b 12) _ _ (λ t. escape_sound x f)
+  clearing_sound x b =
+      pick_ind S (eqb b 12) _ _ (λ t. escape_sound x)
       (λ t. pick_ind S (is_mask b) _ _ (λ u. mask_sound (x.stems + x.args / 2) x.spent)
       (λ u. pick_ind S (is_stem b) _ _ (λ v. stem_sound (x.stems + x.args / 2) x.spent)
-      (λ v. pick_ind S (is_path b) _ Breaks (λ w. goes_sound (at + 1) (at + 1) 0 x.stems x.spent (omega arith) (omega arith) (omega arith) f.hints) (λ w. tt))))
+      (λ v. pick_ind S (is_path b) _ Breaks (λ w. goes_sound (at + 1) (at + 1) 0 x.stems x.spent (omega arith) (omega arith)) (λ w. tt))))
 
-  operator_sound : (own : Bool) (prev : ℕ) (x : Counts) (b : ℕ) → Few x → S (operator_turn_lem locals globals own s at prev x b)
+  operator_sound : (own : Bool) (prev : ℕ) (x : Counts) (b : ℕ) → S (operator_turn_lem locals globals own s at prev x b)
   unfolding operator_turn_lem
-  operator_sound own prev x b f =
-      pick_ind S (eqb b 10) _ _ (λ t. call_sound false x f (target_of locals (last_at s prev at)) (target_below locals (last_at s prev at)))
-      (λ t. pick_ind S (eqb b 29) _ _ (λ u. call_sound true x f (target_of globals (last_at s prev at)) (target_below globals (last_at s prev at)))
-      (λ u. pick_ind S (eqb b 11) _ _ (λ v. pick_ind S own Breaks (Returns x) (λ w. tt) (λ w. f))
+  operator_sound own prev x b =
+      pick_ind S (eqb b 10) _ _ (λ t. call_sound false x (target_of locals (last_at s prev at)) (target_below locals (last_at s prev at)))
+      (λ t. pick_ind S (eqb b 29) _ _ (λ u. call_sound true x (target_of globals (last_at s prev at)) (target_below globals (last_at s prev at)))
+      (λ u. pick_ind S (eqb b 11) _ _ (λ v. pick_ind S own Breaks (Returns x) (λ w. tt) (λ w. tt))
       (λ v. pick_ind S (eqb b 14) _ _ (λ w. pick_ind S (ltb 1 x.args) Breaks _ (λ y. tt) (λ y. leaves_sound 0 x.stems x.spent (λ z. Ends) tt))
-      (λ w. clearing_sound x b f))))
+      (λ w. clearing_sound x b))))
 
-  by_sound : (own : Bool) (prev : ℕ) (x : Counts) → Few x → (q : Read) → Further s at q → S (turn_by locals globals own s at prev x q)
+  by_sound : (own : Bool) (prev : ℕ) (x : Counts) (q : Read) → Further s at q → S (turn_by locals globals own s at prev x q)
   unfolding turn_by
-  by_sound own prev x f cut k = tt
-  by_sound own prev x f operator k = operator_sound own prev x (get_or s at 0) f
-  by_sound own prev x f (number z n) k =
-      pick_ind S (ltb x.args 48) _ Breaks
-      (λ t. let l = ltb-true x.args 48 t in goes_sound n at (x.args + 1) x.stems x.spent k.0 k.1 (omega arith) f.hints) (λ t. tt)
+  by_sound own prev x cut k = tt
+  by_sound own prev x operator k = operator_sound own prev x (get_or s at 0)
+  by_sound own prev x (number z n) k = pick_ind S (ltb x.args 48) _ Breaks (λ t. goes_sound n at (x.args + 1) x.stems x.spent k.0 k.1) (λ t. tt)
 
-  pub turn_sound : (own : Bool) (prev : ℕ) (x : Counts) → Few x → S (turn_at_lem locals globals own s at prev x)
-  turn_sound own prev x f = by_sound own prev x f (number_at s at) (further s at h)
+  pub turn_sound : (own : Bool) (prev : ℕ) (x : Counts) → S (turn_at_lem locals globals own s at prev x)
+  turn_sound own prev x = by_sound own prev x (number_at s at) (further s at h)
+
+-- few operands and stems wait after a turn
+abbrev pub FewAfter : Turn → Type 0
+FewAfter Breaks = Unit
+FewAfter (Returns y) = Few y
+FewAfter Ends = Unit
+FewAfter (Goes n p y) = Few y
+FewAfter (Masks len y) = Few y
+FewAfter (Calls wide i y) = Few y
+
+module _ (s : List ℕ) (at : ℕ) where
+  leaves_few : (args stems spent : ℕ) (go : Counts → Turn) → FewAfter (go (record { args = args; stems = stems; spent = spent + 1 })) → FewAfter (leaves args stems spent go)
+  leaves_few args stems spent go p = pick_ind FewAfter (ltb spent 65536) _ Breaks (λ t. p) (λ t. tt)
+
+  goes_few : (n p args stems spent : ℕ) → args ≤ 48 → stems ≤ 96 → FewAfter (goes_on n p args stems spent)
+  goes_few n p args stems spent a b = leaves_few args stems spent (Goes n p) (record { operands = a; hints = b })
+
+  call_few : (wide : Bool) (x : Counts) → Few x → (q : Option ℕ) → FewAfter (call_turn wide x q)
+  call_few wide x f None = tt
+  call_few wide x f (Some i) = record { operands = omega (arith, f.operands); hints = f.hints }
+
+  escape_few : (x : Counts) → Few x → FewAfter (escape_turn s at x)
+  escape_few x f =
+      let e = get_or s (at + 1) 0 in
+      pick_ind FewAfter (ltb (length s - at) 2) Breaks _ (λ t. tt)
+      (λ t. pick_ind FewAfter (ltb e 34) Breaks _ (λ t. tt)
+      (λ u. pick_ind FewAfter (ltb 37 e) Breaks _ (λ v. tt) (λ v. goes_few (at + 2) (at + 2) 0 x.stems x.spent (omega arith) f.hints)))
+
+  mask_few : (n spent : ℕ) → FewAfter (mask_turn s at n spent)
+  mask_few n spent =
+      pick_ind FewAfter (ltb 96 n) Breaks _ (λ t. tt)
+      (λ t. pick_ind FewAfter (ltb (length s - (at + 1)) ((n + 7) / 8)) Breaks _ (λ t. tt)
+      (λ u. leaves_few 0 n spent (Masks ((n + 7) / 8)) (record { operands = omega arith; hints = ltb-false 96 n t })))
+
+  stem_few : (n spent : ℕ) → FewAfter (stem_turn at n spent)
+  stem_few n spent = pick_ind FewAfter (ltb 96 n) Breaks _ (λ t. tt) (λ t. goes_few (at + 1) (at + 1) 0 n spent (omega arith) (ltb-false 96 n t))
+
+  clearing_few : (x : Counts) (b : ℕ) → Few x → FewAfter (clearing_turn_lem s at x b)
+  unfolding clearing_turn_lem
+  clearing_few x b f =
+      pick_ind FewAfter (eqb b 12) _ _ (λ t. escape_few x f)
+      (λ t. pick_ind FewAfter (is_mask b) _ _ (λ u. mask_few (x.stems + x.args / 2) x.spent)
+      (λ u. pick_ind FewAfter (is_stem b) _ _ (λ v. stem_few (x.stems + x.args / 2) x.spent)
+      (λ v. pick_ind FewAfter (is_path b) _ Breaks (λ w. goes_few (at + 1) (at + 1) 0 x.stems x.spent (omega arith) f.hints) (λ w. tt))))
+
+  operator_few : (locals globals : ℕ) (own : Bool) (prev : ℕ) (x : Counts) (b : ℕ) → Few x → FewAfter (operator_turn_lem locals globals own s at prev x b)
+  unfolding operator_turn_lem
+  operator_few locals globals own prev x b f =
+      pick_ind FewAfter (eqb b 10) _ _ (λ t. call_few false x f (target_of locals (last_at s prev at)))
+      (λ t. pick_ind FewAfter (eqb b 29) _ _ (λ u. call_few true x f (target_of globals (last_at s prev at)))
+      (λ u. pick_ind FewAfter (eqb b 11) _ _ (λ v. pick_ind FewAfter own Breaks (Returns x) (λ w. tt) (λ w. f))
+      (λ v. pick_ind FewAfter (eqb b 14) _ _ (λ w. pick_ind FewAfter (ltb 1 x.args) Breaks _ (λ y. tt) (λ y. leaves_few 0 x.stems x.spent (λ z. Ends) tt))
+      (λ w. clearing_few x b f))))
+
+  by_few : (locals globals : ℕ) (own : Bool) (prev : ℕ) (x : Counts) → Few x → (q : Read) → FewAfter (turn_by locals globals own s at prev x q)
+  unfolding turn_by
+  by_few locals globals own prev x f cut = tt
+  by_few locals globals own prev x f operator = operator_few locals globals own prev x (get_or s at 0) f
+  by_few locals globals own prev x f (number z n) =
+      pick_ind FewAfter (ltb x.args 48) _ Breaks
+      (λ t. let l = ltb-true x.args 48 t in goes_few n at (x.args + 1) x.stems x.spent (omega arith) f.hints) (λ t. tt)
+
+  pub turn_few : (locals globals : ℕ) (own : Bool) (prev : ℕ) (x : Counts) → Few x → FewAfter (turn_at_lem locals globals own s at prev x)
+  turn_few locals globals own prev x f = by_few locals globals own prev x f (number_at s at)
 
 -- ---- the ways out of the code
 

@@ -6,17 +6,18 @@
 ghost use Rattle.std.specs.Prelude.{◌≡◌, ◌-◌, ◌≤◌, ◌<◌, length, get_or, Some};
 ghost use Rattle.type2_number.specs.Number.{number_at};
 ghost use Rattle.unfold.specs.Unfold.{target_of, is_stem, is_path};
-ghost use Rattle.turns.specs.Turns.{Few, end_of, last_at, goes_on, call_turn, mask_turn, escape_turn, clearing_turn_lem, operator_turn_lem, turn_at_lem};
+ghost use Rattle.turns.specs.Turns.{end_of, last_at, goes_on, call_turn, mask_turn, escape_turn, clearing_turn_lem, operator_turn_lem, turn_at_lem};
 
 use charstring::place::Place;
 use charstring::{bias, is_mask};
 use type2_number::{Number, Operand, count_of, read_number};
 
-// What has run so far: operands waiting, stems, tokens and calls spent.
+// What has run so far: operands waiting, stems, tokens and calls spent. A glyph's run keeps to 48 operands and 96 stems; the counts may be any. (Counts
+// of one byte were tried, and a body's run takes a tenth more instructions.)
 #[derive(Clone, Copy)]
 pub struct Counts {
-    pub args: usize,
-    pub stems: usize,
+    pub args: u32,
+    pub stems: u32,
     pub spent: usize,
 }
 
@@ -33,6 +34,7 @@ pub enum Turn {
 }
 
 // Where the number at a place ends, or that the end cuts it off, or that an operator stands there.
+// (It stays an enum: an operator is no failure, and of a number that is cut off nothing more is said, so that an Option in a Result is no plainer.)
 #[derive(Clone, Copy)]
 pub enum NumberEnd {
     Cut,
@@ -114,7 +116,7 @@ fn target_at(code: &[u8], prev: usize, at: usize, count: usize) -> Option<usize>
 }
 
 // One token more, and on in the same body.
-fn goes_on(at: usize, prev: usize, args: usize, stems: usize, spent: usize) -> Turn
+fn goes_on(at: usize, prev: usize, args: u32, stems: u32, spent: usize) -> Turn
     ensures { result ≡ goes_on at prev args stems spent }
 {
     if spent < 65536 {
@@ -132,7 +134,7 @@ fn goes_on(at: usize, prev: usize, args: usize, stems: usize, spent: usize) -> T
 }
 
 // One less, but not below 0.
-fn one_less(n: usize) -> usize
+fn one_less(n: u32) -> u32
     ensures { result ≡ n - 1 }
 {
     n.saturating_sub(1)
@@ -191,7 +193,7 @@ fn mask_turn(p: &Place<'_>, n: usize, spent: usize) -> Turn
             len,
             Counts {
                 args: 0,
-                stems: n,
+                stems: n as u32,
                 spent: spent + 1,
             },
         );
@@ -239,13 +241,12 @@ fn is_path(b: u8) -> bool
 
 // An operator that clears the operands, endchar aside.
 fn clearing_turn(p: &Place<'_>, b: u8, x: Counts) -> Turn
-    requires { Few x }
     ensures { result ≡ clearing_turn_lem p.now.code.now p.now.at x b }
 {
     let at = p.at;
     let stems = x.stems;
     let spent = x.spent;
-    let n = stems + x.args / 2;
+    let n = stems as usize + x.args as usize / 2;
     if b == 12 {
         return escape_turn(p, x);
     }
@@ -256,7 +257,7 @@ fn clearing_turn(p: &Place<'_>, b: u8, x: Counts) -> Turn
         if 96 < n {
             return Turn::Breaks;
         }
-        return goes_on(at + 1, at + 1, 0, n, spent);
+        return goes_on(at + 1, at + 1, 0, n as u32, spent);
     }
     if is_path(b) {
         return goes_on(at + 1, at + 1, 0, stems, spent);
@@ -273,7 +274,6 @@ fn operator_turn(
     globals: usize,
     own: bool,
 ) -> Turn
-    requires { Few x }
     ensures { result ≡ operator_turn_lem locals globals own p.now.code.now p.now.at prev x (get_or p.now.code.now p.now.at 0) }
 {
     let b = p.code[p.at];
@@ -311,7 +311,7 @@ pub fn turn_at(
     globals: usize,
     own: bool,
 ) -> Turn
-    requires { (at < length code.now) × (Few x) }
+    requires { at < length code.now }
     ensures { result ≡ turn_at_lem locals globals own code.now at prev x }
 {
     let p = Place { code, at };

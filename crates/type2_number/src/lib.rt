@@ -116,7 +116,8 @@ fn pair(a: u8, b: u8) -> usize
     usize::from(a) * 256 + usize::from(b)
 }
 
-// What stands at a position: a number and the position after it, a number that the end cuts off, or an operator.
+// What stands at a position: a number and the position after it, a number that the end cuts off, or an operator. Three cases are plainer than a Result of an
+// Option: an operator is neither absent nor an error.
 #[derive(Clone, Copy)]
 pub enum Number {
     Num { value: Operand, next: usize },
@@ -185,7 +186,7 @@ pub fn read_number(code: &[u8], at: usize) -> Number
     }
 }
 
-// A count of 65536ths, as its sign and its size.
+// A count of 65536ths, as its sign and its size. decimal `Signed` counts whole numbers: one type for both would let them be mixed up.
 #[derive(Clone, Copy)]
 pub struct Scaled {
     pub neg: bool,
@@ -219,7 +220,8 @@ fn put_tagged(out: &mut Out<'_>, tag: u8, value: usize, size: usize)
     out.num(value, size);
 }
 
-// The integer v in its shortest form (TN5177, table 1: a case for each first byte of a two-byte form).
+// The integer v in its shortest form (TN5177, table 1: a case for each first byte of a two-byte form). This and the next stay two: in one the first
+// bytes would be computed from the sign, and document 02, Wish 3, wants them as the table prints them.
 fn put_positive(v: usize, out: &mut Out<'_>)
     requires { (v < 32768) × (out.old.at + length (integer_bytes false v) ≤ length out.old.bytes.now) }
     ensures { Writes out.old (integer_bytes false v) out.new }

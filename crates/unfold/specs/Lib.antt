@@ -1,2 +1,3 @@
 pub mod Unfold
+pub mod Sites
 pub mod Examples

@@ -65,7 +65,7 @@ fn cut_font(
     let w = early_refusals::size_of(c.small, &held.loaded);
     let words = &mut work[..w];
     let r = cut_glyphs(c.keying, &held, ask, &mut *words, out);
-    reach::ranks::clear(words);
+    words.fill(0);
     r
 }
 

@@ -35,4 +35,4 @@ returns c =
     let a = c.args in
     let font = a.font.now in
     late_blocks font.file.now a.name.now a.keep.now a.work.now a.slice.now font.octets font.loaded.f font.loaded.bytes.now font.in_file _ c.refusal.ensures c.in_ok-refusal.was _ c.work_size-w.ensures _ _ _ _ _ c.culprit_in-r.ensures.0
-    (search rules) c.clear.ensures (search rules) (c.fill.ensures.after (search rules))
+    (search rules) (c.fill.ensures.after (search rules)) (search rules) (c.fill-2.ensures.after (search rules))

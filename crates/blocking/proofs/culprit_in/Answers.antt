@@ -15,10 +15,10 @@ least_culprit-requires c =
     (ap (λ n. all_below n c.args.keep.now) (sym (items-length s.font.loaded.bytes.now s.font.loaded.f.charstrings))
     ∙ stubbed-below (program s.font.loaded) s.name.now c.args.keep.now (length s.words.now) (length s.slice.now) _ _ c.try_list.ensures.0 c.in_ok-c.was)
 
-pub returns-then-is_stubbed : goal.returns-then-is_stubbed
-returns-then-is_stubbed c =
+pub returns-then-eq : goal.returns-then-eq
+returns-then-eq c =
     let s = c.args.search.now in (
-      answers_least (program s.font.loaded) s.name.now c.args.keep.now (length s.words.now) (length s.slice.now) _ _ c.try_list.ensures.0 c.in_ok-c.was (sym c.is_stubbed.ensures ∙ c.if-is_stubbed.true) _
+      answers_least (program s.font.loaded) s.name.now c.args.keep.now (length s.words.now) (length s.slice.now) _ _ c.try_list.ensures.0 c.in_ok-c.was (sym c.eq.ensures ∙ c.if-eq.true) _
           (c.least_culprit.ensures.0 ∙ over-stays (least_by c.args.keep.now) s _ c.try_list.ensures.1),
       stays-then c.try_list.ensures.1 c.least_culprit.ensures.1,
     )
@@ -32,4 +32,4 @@ returns-in_err-c c =
 pub returns : goal.returns
 returns c =
     let s = c.args.search.now in
-    (answers_none (program s.font.loaded) s.name.now c.args.keep.now (length s.words.now) (length s.slice.now) _ _ c.try_list.ensures.0 c.in_ok-c.was (sym c.is_stubbed.ensures ∙ c.if-is_stubbed.false), c.try_list.ensures.1)
+    (answers_none (program s.font.loaded) s.name.now c.args.keep.now (length s.words.now) (length s.slice.now) _ _ c.try_list.ensures.0 c.in_ok-c.was (sym c.eq.ensures ∙ c.if-eq.false), c.try_list.ensures.1)

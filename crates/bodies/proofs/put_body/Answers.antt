@@ -5,13 +5,13 @@ use Rattle.bodies.specs.CodeLaws.{new-renumbered, new-copied, renumbered-room, c
 use Rattle.bodies.proofs.put_body.Goals as goal
 
 pub put_renumbered-requires : goal.put_renumbered-requires
-put_renumbered-requires c = renumbered-room _ _ _ _ _ (sym c.is_renumbered.ensures ∙ c.if-is_renumbered.true) _ _ c.requires.0 c.requires.1
+put_renumbered-requires c = renumbered-room _ _ _ _ _ (sym c.eq.ensures ∙ c.if-eq.true) _ _ c.requires.0 c.requires.1
 
-pub returns-then-is_renumbered : goal.returns-then-is_renumbered
-returns-then-is_renumbered c = writes_as c.put_renumbered.ensures (new-renumbered _ _ _ _ _ (sym c.is_renumbered.ensures ∙ c.if-is_renumbered.true))
+pub returns-then-eq : goal.returns-then-eq
+returns-then-eq c = writes_as c.put_renumbered.ensures (new-renumbered _ _ _ _ _ (sym c.eq.ensures ∙ c.if-eq.true))
 
 pub copy-requires : goal.copy-requires
-copy-requires c = copied-room _ _ _ _ _ (sym c.is_renumbered.ensures ∙ c.if-is_renumbered.false) _ _ c.requires.1
+copy-requires c = copied-room _ _ _ _ _ (sym c.eq.ensures ∙ c.if-eq.false) _ _ c.requires.1
 
 pub returns : goal.returns
-returns c = writes_as c.copy.ensures (new-copied _ _ _ _ _ (sym c.is_renumbered.ensures ∙ c.if-is_renumbered.false))
+returns c = writes_as c.copy.ensures (new-copied _ _ _ _ _ (sym c.eq.ensures ∙ c.if-eq.false))

@@ -13,7 +13,7 @@ pub gather-o-requires : goal.gather-o-requires
 gather-o-requires c =
     let a = c.args in
     let p = c.requires.0 in
-    gather_asked a.font.now.loaded.bytes.now a.font.now.loaded.f a.font.now.held a.keep.now a.words.now a.window.now p.below p.found p.room c.requires.1
+    gather_asked a.font.now.loaded.bytes.now a.font.now.loaded.f a.keep.now a.words.now a.window.now p.below p.found p.room c.requires.1
 
 pub plan_cut-cut-requires : goal.plan_cut-cut-requires
 plan_cut-cut-requires c =

@@ -1,6 +1,10 @@
 -- `by_name::cut_planned` meets its contract: the length that was measured is that of the subset, which is tested, and then written.
+use Rattle.named_parts.specs.Subset.{ready_planned}
 use Rattle.by_name.specs.NamedLaws.{planned_long, planned-room, planned-written}
 use Rattle.by_name.proofs.cut_planned.Goals as goal
+
+pub places_named-at-requires : goal.places_named-at-requires
+places_named-at-requires c = ready_planned c.args.c.now
 
 pub returns-then-end-gt-LONGEST : goal.returns-then-end-gt-LONGEST
 returns-then-end-gt-LONGEST c =

@@ -15,7 +15,7 @@ use Rattle.by_name.proofs.prepare.Goals as goal
 pub gather-o-requires : goal.gather-o-requires
 gather-o-requires c =
     let p = c.requires.0 in
-    gather_asked _ _ c.args.font.now.held c.args.keep.now c.args.words.now c.args.window.now p.below p.found p.room c.requires.1
+    gather_asked c.args.font.now.loaded.bytes.now c.args.font.now.loaded.f c.args.keep.now c.args.words.now c.args.window.now p.below p.found p.room c.requires.1
 
 pub plan_cut-requires : goal.plan_cut-requires
 plan_cut-requires c =

@@ -37,9 +37,6 @@ next c =
 pub loop-c-init : goal.loop-c-init
 loop-c-init c = listing_start _ _ (λ i. (c.type_inv.code i).fits) _ c.start-c.ensures _ c.one-answer.ensures c.requires
 
-pub given_at-given-requires : goal.given_at-given-requires
-given_at-given-requires c = c.loop-c.invariant.within.behind
-
 pub next_token-requires : goal.next_token-requires
 next_token-requires c = (c.loop-c.invariant.within, going (goal.at.next_token-requires c).In-loop-c)
 

@@ -30,23 +30,23 @@ pub part_sizes-requires : goal.part_sizes-requires
 part_sizes-requires c =
     let a = c.args.c.now in
     let m = parts-measured a.kept.font.now (rows_of a.parts.rows.now) a.parts.used.now a.kept.words.now a.parts.table.now a.parts.cut.plan a.ready.cid.ready a.parts.totals.now a.ready.summed in
-    (m.0, m.1, omega arith, omega arith)
+    (m.0, m.1, omega arith)
 
 pub put_font_dicts-requires : goal.put_font_dicts-requires
 put_font_dicts-requires c =
     let a = c.args.c.now in
-    dicts-put a.kept.font.now (rows_of a.parts.rows.now) a.parts.used.now a.kept.words.now a.parts.cut.plan a.parts.table.now a.ready.cid.ready a.parts.totals.now a.ready.summed _ _ _ c.args.from (dicts_ready a.kept.font.now (rows_of a.parts.rows.now) a.parts.used.now a.kept.words.now a.parts.cut.plan a.parts.table.now a.ready.cid a.parts.totals.now a.ready.summed c.part_sizes.ensures (table-room _ refl) (table-room _ refl) (listed-put a.parts.used.now (replicate 256 0) _ c.list_used.ensures.0 (table-room (replicate 256 0) refl) a.parts.cut.count a.ready.counted) a.parts.cut.count a.ready.counted c.args.from c.requires.0 c.args.out.now.at c.requires.1) c.args.out.now.at c.args.out.now.bytes.now c.requires.1 c.requires.2
+    dicts-put a.kept.font.now (rows_of a.parts.rows.now) a.parts.used.now a.kept.words.now a.parts.cut.plan a.parts.table.now a.ready.cid.ready a.parts.totals.now a.ready.summed _ _ c.args.from (dicts_ready a.kept.font.now (rows_of a.parts.rows.now) a.parts.used.now a.kept.words.now a.parts.cut.plan a.parts.table.now a.ready.cid a.parts.totals.now a.ready.summed c.part_sizes.ensures (listed-put a.parts.used.now (replicate 256 0) _ c.list_used.ensures.0 (table-room (replicate 256 0) refl) a.parts.cut.count a.ready.counted) a.parts.cut.count a.ready.counted c.args.from c.requires.0 c.args.out.now.at c.requires.1) c.args.out.now.at c.args.out.now.bytes.now c.requires.1 c.requires.2
 
 pub put_privates-requires : goal.put_privates-requires
 put_privates-requires c =
     let a = c.args.c.now in
-    privates-put a.kept.font.now (rows_of a.parts.rows.now) a.parts.used.now a.kept.words.now a.parts.cut.plan a.parts.table.now a.ready.cid.ready a.parts.totals.now a.ready.summed _ _ _ c.args.from (dicts_ready a.kept.font.now (rows_of a.parts.rows.now) a.parts.used.now a.kept.words.now a.parts.cut.plan a.parts.table.now a.ready.cid a.parts.totals.now a.ready.summed c.part_sizes.ensures (table-room _ refl) (table-room _ refl) (listed-put a.parts.used.now (replicate 256 0) _ c.list_used.ensures.0 (table-room (replicate 256 0) refl) a.parts.cut.count a.ready.counted) a.parts.cut.count a.ready.counted c.args.from c.requires.0 c.args.out.now.at c.requires.1) c.args.out.now.at c.args.out.now.bytes.now c.requires.1 c.requires.2 c.put_font_dicts.ensures.wrote
+    privates-put a.kept.font.now (rows_of a.parts.rows.now) a.parts.used.now a.kept.words.now a.parts.cut.plan a.parts.table.now a.ready.cid.ready a.parts.totals.now a.ready.summed _ _ c.args.from (dicts_ready a.kept.font.now (rows_of a.parts.rows.now) a.parts.used.now a.kept.words.now a.parts.cut.plan a.parts.table.now a.ready.cid a.parts.totals.now a.ready.summed c.part_sizes.ensures (listed-put a.parts.used.now (replicate 256 0) _ c.list_used.ensures.0 (table-room (replicate 256 0) refl) a.parts.cut.count a.ready.counted) a.parts.cut.count a.ready.counted c.args.from c.requires.0 c.args.out.now.at c.requires.1) c.args.out.now.at c.args.out.now.bytes.now c.requires.1 c.requires.2 c.put_font_dicts.ensures.wrote
 
 pub returns : goal.returns
 returns c =
     let a = c.args.c.now in
     record {
-      wrote = privates-wrote a.kept.font.now (rows_of a.parts.rows.now) a.parts.used.now a.kept.words.now a.parts.cut.plan a.parts.table.now a.ready.cid.ready a.parts.totals.now a.ready.summed _ _ _ c.args.from (dicts_ready a.kept.font.now (rows_of a.parts.rows.now) a.parts.used.now a.kept.words.now a.parts.cut.plan a.parts.table.now a.ready.cid a.parts.totals.now a.ready.summed c.part_sizes.ensures (table-room _ refl) (table-room _ refl) (listed-put a.parts.used.now (replicate 256 0) _ c.list_used.ensures.0 (table-room (replicate 256 0) refl) a.parts.cut.count a.ready.counted) a.parts.cut.count a.ready.counted c.args.from c.requires.0 c.args.out.now.at c.requires.1) c.args.out.now.at c.args.out.now.bytes.now c.requires.1 c.requires.2 c.put_font_dicts.ensures.wrote c.put_privates.ensures.wrote;
+      wrote = privates-wrote a.kept.font.now (rows_of a.parts.rows.now) a.parts.used.now a.kept.words.now a.parts.cut.plan a.parts.table.now a.ready.cid.ready a.parts.totals.now a.ready.summed _ _ c.args.from (dicts_ready a.kept.font.now (rows_of a.parts.rows.now) a.parts.used.now a.kept.words.now a.parts.cut.plan a.parts.table.now a.ready.cid a.parts.totals.now a.ready.summed c.part_sizes.ensures (listed-put a.parts.used.now (replicate 256 0) _ c.list_used.ensures.0 (table-room (replicate 256 0) refl) a.parts.cut.count a.ready.counted) a.parts.cut.count a.ready.counted c.args.from c.requires.0 c.args.out.now.at c.requires.1) c.args.out.now.at c.args.out.now.bytes.now c.requires.1 c.requires.2 c.put_font_dicts.ensures.wrote c.put_privates.ensures.wrote;
       same = c.put_privates.ensures.same ∙ c.put_font_dicts.ensures.same;
       size = c.put_privates.ensures.size ∙ c.put_font_dicts.ensures.size;
     }

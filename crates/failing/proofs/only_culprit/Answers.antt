@@ -1,8 +1,9 @@
 -- `failing::only_culprit` meets its contract: the bits of the subroutines that the record has are set, and a charstring that fails by them says which
 -- glyph it is.
-use Rattle.std.proofs.Common.{arith, length, ℕ}
+use Rattle.std.proofs.Common.{arith, length}
 use lib.ListN.{length-replicate}
 use Rattle.cff.specs.Loaded.{program}
+use Rattle.bodies.specs.Ways.{no_ranks}
 use Rattle.failing.specs.FailingLaws.{bits_room, asks_made, only-found, each_may}
 use Rattle.failing.proofs.only_culprit.Goals as goal
 
@@ -12,7 +13,7 @@ invariant_of-fds c = record { long = omega (arith, c.mark_fds.ensures.long); of 
 pub rank_all-ranked-requires : goal.rank_all-ranked-requires
 rank_all-ranked-requires c =
     let list = c.args.list.now in
-    let n = length-replicate {A = ℕ} 1280 0 in
+    let n = length-replicate 256 no_ranks in
     (bits_room list.font.loaded.bytes.now list.font.loaded.f list.font.held list.keep.now c.args.rows.now list.below c.requires.1 (length c.args.words.now) c.requires.0, omega (arith, n))
 
 pub invariant_of-by : goal.invariant_of-by

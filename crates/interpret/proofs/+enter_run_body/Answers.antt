@@ -8,16 +8,16 @@ pub enter-returns-then-depth-eq0 : goal.enter-returns-then-depth-eq0
 enter-returns-then-depth-eq0 t c = too_deep _ _ _ c.args.global c.args.number c.args.x _ _ c.if-depth-eq0.true
 
 pub enter-overflow_cast-number : goal.enter-overflow_cast-number
-enter-overflow_cast-number t c = omega (arith, number_small _ _ c.args.from.now.ready c.args.global _ c.requires.0)
+enter-overflow_cast-number t c = omega (arith, number_small _ _ c.args.from.now.ready c.args.global _ c.requires)
 
 pub enter-run_body-requires : goal.enter-run_body-requires
-enter-run_body-requires t c = (omega (arith, c.decreases, c.if-depth-eq0.false), (body-fits c.args.from.now.ready c.args.global _ c.requires.0 c.site_for-site.ensures c.subr-body.ensures, c.requires.1))
+enter-run_body-requires t c = (omega (arith, c.decreases, c.if-depth-eq0.false), (body-fits c.args.from.now.ready c.args.global _ c.requires c.site_for-site.ensures c.subr-body.ensures))
 
 pub enter-returns : goal.enter-returns
-enter-returns t c = entered_ran c.args.from.now.ready c.args.global _ c.requires.0 c.site_for-site.ensures c.subr-body.ensures _ _ _ _ c.if-depth-eq0.false c.note_entered.ensures c.run_body.ensures
+enter-returns t c = entered_ran c.args.from.now.ready c.args.global _ c.requires c.site_for-site.ensures c.subr-body.ensures _ _ _ _ c.if-depth-eq0.false c.note_entered.ensures c.run_body.ensures
 
 pub run_body-loop-at-init : goal.run_body-loop-at-init
-run_body-loop-at-init t c = stand_start _ _ _ _ _ _ _ _ _ c.args.from.now.ready c.requires.0 c.requires.1 c.is_glyph-own.ensures
+run_body-loop-at-init t c = stand_start _ _ _ _ _ _ _ _ _ c.args.from.now.ready c.requires c.is_glyph-own.ensures
 
 pub run_body-returns-in-Breaks : goal.run_body-returns-in-Breaks
 run_body-returns-in-Breaks t c = stand_breaks c.loop-at.invariant c.loop-at-test.true c.turn_at.ensures c.in-Breaks.is

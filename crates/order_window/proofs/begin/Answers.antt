@@ -4,27 +4,27 @@ use Rattle.order.specs.Walks.{start_of, Stands}
 use Rattle.order.specs.WalkLaws.{start_stands}
 use Rattle.order_window.specs.GatheredLaws.{begin_asks, begun_whole, begun_none}
 use Rattle.order_window.proofs.begin.Goals as goal
-use Rattle.order_window.proofs.begin.Goals.{After-searches-search}
+use Rattle.order_window.proofs.begin.Goals.{After-searches}
 
 -- a walk can begin
-stands : (q : After-searches-search) → Stands q.args.font.now q.args.f q.args.words.now (start_of q.args.f q.searches-search.result)
+stands : (q : After-searches) → Stands q.args.font.now.bytes.now q.args.font.now.f q.args.words.now (start_of q.args.font.now.f q.searches.result)
 stands q =
-    start_stands q.args.font.now q.args.f q.args.words.now q.requires.0.good q.requires.0.found
-    (λ i. (q.type_inv.font i).fits) q.searches-search.result q.searches-search.ensures
+    start_stands q.args.font.now.bytes.now q.args.font.now.f q.args.words.now q.requires.0.good q.requires.0.found
+    q.octets_in.ensures q.searches.result q.searches.ensures
 
 pub next-walk-requires : goal.next-walk-requires
 next-walk-requires c =
-    begin_asks c.args.font.now c.args.f c.args.words.now c.requires.0 c.count-count.result c.count-count.ensures c.start-first.result c.searches-search.result
-    c.start-first.ensures (stands (goal.at.next-walk-requires c).After-searches-search) c.args.window.now c.requires.1
+    begin_asks c.args.font.now.bytes.now c.args.font.now.f c.args.words.now c.requires.0 c.count-count.result c.count-count.ensures c.start-first.result c.searches.result
+    c.start-first.ensures (stands (goal.at.next-walk-requires c).After-searches) c.args.window.now c.requires.1
 
 pub returns-then-walk-count : goal.returns-then-walk-count
 returns-then-walk-count c =
-    let g = begun_whole c.args.font.now c.args.f c.args.words.now c.requires.0 c.count-count.result c.count-count.ensures c.start-first.result c.searches-search.result
-    c.start-first.ensures (stands (goal.at.returns-then-walk-count c).After-searches-search) _ (omega (arith, c.next-walk.auto.window, c.requires.1)) _ c.next-walk.ensures c.if-walk-count.true in
+    let g = begun_whole c.args.font.now.bytes.now c.args.font.now.f c.args.words.now c.requires.0 c.count-count.result c.count-count.ensures c.start-first.result c.searches.result
+    c.start-first.ensures (stands (goal.at.returns-then-walk-count c).After-searches) _ (omega (arith, c.next-walk.auto.window, c.requires.1)) _ c.next-walk.ensures c.if-walk-count.true in
     (g.0, refl, g.1)
 
 pub returns : goal.returns
 returns c =
-    let g = begun_none c.args.font.now c.args.f c.args.words.now c.requires.0 c.count-count.result c.count-count.ensures c.start-first.result c.searches-search.result
-    c.start-first.ensures (stands (goal.at.returns c).After-searches-search) _ (omega (arith, c.next-walk.auto.window, c.requires.1)) in
+    let g = begun_none c.args.font.now.bytes.now c.args.font.now.f c.args.words.now c.requires.0 c.count-count.result c.count-count.ensures c.start-first.result c.searches.result
+    c.start-first.ensures (stands (goal.at.returns c).After-searches) _ (omega (arith, c.next-walk.auto.window, c.requires.1)) in
     (g.0, refl, g.1)

@@ -1,5 +1,5 @@
 -- `parts::plan_all` meets its contract: ranking leaves the bits of the glyphs, so that what measuring asks is there.
-use Rattle.std.proofs.Common.{arith, refl, rules}
+use Rattle.std.proofs.Common.{arith, refl, rules, ◌∙◌}
 use Rattle.record.specs.Record.{rows_of}
 use Rattle.plan.specs.FontLaws.{narrow_rows}
 use Rattle.parts.specs.PlannedLaws.{rank_room, plan_ordered, plan_asked, returns_planned, stays_gathered}
@@ -30,4 +30,4 @@ returns c =
     let s = c.plan_bodies-found.ensures.1 in
     returns_planned _ _ _ _ _ c.requires.0 (rows_of a.rows.now) (narrow_rows a.rows.now (λ i. (c.type_inv.rows i).fits)) _ _ _ u.ensures u.auto.words _
     c.rises-rising.ensures (omega (arith, c.requires.1, u.auto.table)) _ a.traced _ c.first_way.ensures _ _ c.plan_bodies-found.ensures.0
-    (omega (arith, c.requires.2, c.plan_bodies-found.auto.totals)) _ s.f s.count refl _ (stays_gathered _ _ s _ (search rules))
+    (omega (arith, c.requires.2, c.plan_bodies-found.auto.totals)) _ s.f s.count refl _ (stays_gathered _ _ s _ (search rules)) (λ h. let e = s.whole h in (e.0, (search rules) ∙ e.1))

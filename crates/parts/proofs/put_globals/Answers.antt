@@ -5,7 +5,7 @@ use Rattle.index.specs.Write.{index_bytes}
 use Rattle.record.specs.Record.{rows_of}
 use Rattle.renumber.specs.declared.Ranks.{Ranks}
 use Rattle.bodies.specs.declared.subrs.Source.{Source}
-use Rattle.bodies.specs.declared.subrs.Subrs.TheVariants.{Global}
+use Rattle.reach.specs.declared.Subrs.TheVariants.{Global}
 use Rattle.bodies.specs.WrittenLaws.{room_adds}
 use Rattle.parts.specs.declared.Planned.{Planned}
 use Rattle.parts.specs.CodeLaws.{globals-asked, globals_are}

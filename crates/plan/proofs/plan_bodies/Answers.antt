@@ -7,9 +7,9 @@ use Rattle.plan.specs.PlanLaws.{returns_first, returns_stubbed}
 use Rattle.plan.proofs.plan_bodies.Goals as goal
 use Rattle.subset.specs.declared.Way.TheVariants.{Stubbed}
 
-pub returns-then-m : goal.returns-then-m
-returns-then-m c =
-    (returns_first _ _ _ _ _ _ _ _ _ _ c.measure-m.ensures.0 c.if-m.true _ c.planned.ensures, c.measure-m.ensures.1)
+pub returns-in-Some : goal.returns-in-Some
+returns-in-Some c =
+    (returns_first _ _ _ _ _ _ _ _ _ _ c.measure-m.ensures.0 _ c.in-Some.is _ c.planned.ensures, c.measure-m.ensures.1)
 
 pub measure-s-requires : goal.measure-s-requires
 measure-s-requires c =
@@ -20,6 +20,6 @@ measure-s-requires c =
 
 pub returns : goal.returns
 returns c = (
-  returns_stubbed _ _ _ _ _ _ _ _ _ _ c.measure-m.ensures.0 c.if-m.false _ _ (measured_stays _ _ c.measure-m.ensures.1 _ _ _ _ _ _ _ c.measure-s.ensures.0) _ c.planned-2.ensures,
+  returns_stubbed _ _ _ _ _ _ _ _ _ _ c.measure-m.ensures.0 c.in_default.is _ _ (measured_stays _ _ c.measure-m.ensures.1 _ _ _ _ _ _ _ c.measure-s.ensures.0) _ _ c.unwrap_or.ensures _ c.planned-2.ensures,
   stays-then _ _ _ c.measure-m.ensures.1 c.measure-s.ensures.1,
 )

@@ -1,4 +1,5 @@
 -- `write::cut_font` meets its contract: a refusal leaves all as it was; else the words that were cut with end as zeros, and the others stay.
+use Rattle.std.proofs.Common.{rules}
 use Rattle.outcome.specs.Call.{is_cid, asks}
 use Rattle.outcome.specs.Entry.{size_of, CutsWith}
 use Rattle.refusal.specs.HandedOn.{handed_on}
@@ -40,4 +41,4 @@ returns c =
     let a = c.args in
     let font = a.font.now in
     let ask = a.ask.now in
-    late_read a.c.small (is_cid a.c.keying) (asks a.c.keying) font.file.now _ _ ask.name.now ask.keep.now ask.rows.now ask.traced a.work.now a.out.now font.octets ask.octets c.of-held.ensures.0 _ (rw (c.is_cid.ensures, c.asks.ensures) at c.refusal.ensures) c.in_ok-refusal.was _ c.size_of-w.ensures c.cut_glyphs-r.new.words _ _ _ c.cut_glyphs-r.ensures c.cut_glyphs-r.auto.words c.clear.ensures
+    late_read a.c.small (is_cid a.c.keying) (asks a.c.keying) font.file.now _ _ ask.name.now ask.keep.now ask.rows.now ask.traced a.work.now a.out.now font.octets ask.octets c.of-held.ensures.0 _ (rw (c.is_cid.ensures, c.asks.ensures) at c.refusal.ensures) c.in_ok-refusal.was _ c.size_of-w.ensures c.cut_glyphs-r.new.words _ _ _ c.cut_glyphs-r.ensures c.cut_glyphs-r.auto.words (c.fill.ensures.after (search rules))

@@ -1,6 +1,6 @@
 -- `bodies::subrs::body_of` meets its contract: the item of the INDEX, and what the subroutines ask of the words and the record.
 use Rattle.std.proofs.Common.{ap, refl, ◌∙◌}
-use Rattle.reach.specs.Reach.{site_of}
+use Rattle.unfold.specs.Sites.{site_of}
 use Rattle.bodies.specs.CodeLaws.{item_inputs}
 use Rattle.bodies.proofs.subrs.body_of.Goals as goal
 

@@ -8,9 +8,6 @@ use Rattle.cff.specs.Reads.{ReadsLocals}
 use Rattle.cff.specs.ReadsLaws.{adding_start, adding_refused, adding_more, adding_over}
 use Rattle.cff.proofs.private.read_privates.Goals as goal
 
-pub item-d-requires : goal.item-d-requires
-item-d-requires c = (rw c.font.view_is c.requires.good, c.loop-k-test.true)
-
 pub loop-k-init : goal.loop-k-init
 loop-k-init c = (adding_start _ _, c.new-seen.ensures)
 
@@ -19,9 +16,6 @@ returns-in_err-l c =
     let l = c.loop-k in
     handed_on _ _ (ReadsLocals _) c.from_residual.ensures.1
     (adding_refused _ _ _ _ l.invariant.0 (omega (arith, c.loop-k-test.true, items-length c.args.font.now c.args.dicts)) _ (rw c.font.view_is at c.item-d.ensures.0) _ (rw l.invariant.1 at c.in_err-l.ensures))
-
-pub note-requires : goal.note-requires
-note-requires c = (c.in_ok-l.ensures.0, c.in_ok-l.ensures.2)
 
 pub loop-k-preserved : goal.loop-k-preserved
 loop-k-preserved c =

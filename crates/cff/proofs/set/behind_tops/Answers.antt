@@ -10,10 +10,6 @@ returns-in_err-strings c = handed_on _ _ (ReadsFont _ _) c.from_residual.ensures
 pub returns-in_err-globals : goal.returns-in_err-globals
 returns-in_err-globals c = handed_on _ _ (ReadsFont _ _) c.from_residual-in_err-globals.ensures.1 (globals-bad c.args.font.now c.args.names c.args.tops _ (rw c.font.view_is at c.in_ok-strings.ensures.0) _ (rw c.font.view_is at c.in_err-globals.ensures.0))
 
-pub read_set-requires : goal.read_set-requires
-read_set-requires c =
-    record { some = c.font.invariant; tops_held = rw c.font.view_is c.requires; strings-held = c.in_ok-strings.ensures.1; globals-held = c.in_ok-globals.ensures.1 }
-
 pub returns-then-names-tops : goal.returns-then-names-tops
 returns-then-names-tops c = counts_same c.args.font.now c.args.names c.args.tops _ (rw c.font.view_is at c.in_ok-strings.ensures.0) _ (rw c.font.view_is at c.in_ok-globals.ensures.0) c.if-names-tops.true c.read_set.result (rw c.font.view_is at c.read_set.ensures)
 

@@ -10,8 +10,5 @@ returns-in_err-names c = handed_on _ _ (ReadsFont _ _) c.from_residual.ensures.1
 pub returns-in_err-tops : goal.returns-in_err-tops
 returns-in_err-tops c = handed_on _ _ (ReadsFont _ _) c.from_residual-in_err-tops.ensures.1 (tops_bad c.args.font.now c.args.at _ (rw c.font.view_is at c.in_ok-names.ensures.0) _ (rw c.font.view_is at c.in_err-tops.ensures.0))
 
-pub behind_tops-requires : goal.behind_tops-requires
-behind_tops-requires c = rw c.font.view_is at c.in_ok-tops.ensures.1
-
 pub returns : goal.returns
 returns c = tops_read c.args.font.now c.args.at _ (rw c.font.view_is at c.in_ok-names.ensures.0) _ (rw c.font.view_is at c.in_ok-tops.ensures.0) c.behind_tops.result c.behind_tops.ensures

@@ -1,5 +1,5 @@
 -- `privates::put_privates` meets its contract.
-use Rattle.std.proofs.Common.{sym, true, ◌≡◌, ◌∙◌}
+use Rattle.std.proofs.Common.{refl, sym, true, ◌≡◌, ◌∙◌}
 use Rattle.octets.specs.OutLaws.{writes_none, writes_as}
 use Rattle.record.specs.Record.{rows_of}
 use Rattle.cff.specs.Loaded.{program}
@@ -21,9 +21,9 @@ loop-fd-init c =
 pub put_part-requires : goal.put_part-requires
 put_part-requires c =
     let a = c.args in (
-      fd_in _ _ _ _ _ _ _ _ a.fds.now.held c.requires.0 _ c.loop-fd-test.true (in_use (goal.at.put_part-requires c).Then-used-fd-ne0) _ c.ranks-own.ensures,
+      fd_in _ _ _ _ _ _ _ _ a.fds.now.held c.requires.0 _ c.loop-fd-test.true (in_use (goal.at.put_part-requires c).Then-used-fd-ne0) _ refl,
       putting_room a.how.way (program a.fds.now.font) (rows_of a.rows.now) a.words.now a.fds.now.table.now a.how.globals a.fds.now.used.now
-          a.out.now.bytes.now a.totals.now a.out.now.at c.requires.1 c.loop-fd.out.bytes.now c.loop-fd.out.at c.loop-fd.fd c.loop-fd.invariant.wrote c.loop-fd-test.true (in_use (goal.at.put_part-requires c).Then-used-fd-ne0) _ c.ranks-own.ensures,
+          a.out.now.bytes.now a.totals.now a.out.now.at c.requires.1 c.loop-fd.out.bytes.now c.loop-fd.out.at c.loop-fd.fd c.loop-fd.invariant.wrote c.loop-fd-test.true (in_use (goal.at.put_part-requires c).Then-used-fd-ne0) _ refl,
     )
 
 pub loop-fd-preserved : goal.loop-fd-preserved
@@ -34,7 +34,7 @@ loop-fd-preserved c =
       | then-used-fd-ne0 w ↦
           rw w.out-is (record {
             wrote = putting_take a.how.way (program a.fds.now.font) (rows_of a.rows.now) a.words.now a.fds.now.table.now a.how.globals a.fds.now.used.now
-                a.out.now.bytes.now a.totals.now a.out.now.at c.requires.1 c.loop-fd.out.bytes.now c.loop-fd.out.at c.loop-fd.fd i.wrote c.loop-fd-test.true (is_used c.args.fds.now.used.now c.loop-fd.fd w.if-used-fd-ne0.true) _ w.ranks-own.ensures _ _ w.put_part.ensures.wrote;
+                a.out.now.bytes.now a.totals.now a.out.now.at c.requires.1 c.loop-fd.out.bytes.now c.loop-fd.out.at c.loop-fd.fd i.wrote c.loop-fd-test.true (is_used c.args.fds.now.used.now c.loop-fd.fd w.if-used-fd-ne0.true) _ refl _ _ w.put_part.ensures.wrote;
             same = w.put_part.ensures.same ∙ i.same;
             size = w.put_part.ensures.size ∙ i.size;
           })

@@ -1,5 +1,5 @@
 -- `glyphs::charset_in` meets its contract: each way out is a case of `listed_answer`.
-use Rattle.std.proofs.Common.{Some, length, [], ap, arith, refl, sym, ℕ, ◌∙◌, ◌∷◌}
+use Rattle.std.proofs.Common.{Some, length, [], ap, refl, sym, ℕ, ◌∙◌, ◌∷◌}
 use Rattle.charset.specs.Charset.{charset_at}
 use Rattle.charset.specs.CharsetPlaces.{table_at}
 use Rattle.charset.specs.CharsetFound.{refused_is, found-good, found-ids, good_length}
@@ -16,9 +16,6 @@ pub invariant_of-glyphs : goal.invariant_of-glyphs
 invariant_of-glyphs c =
     let a = c.args in
     record { good = found-good a.font.now a.at a.n _ c.requires.1 (sym c.read_charset.ensures ∙ c.in-Ok.is) }
-
-pub put_ids-requires : goal.put_ids-requires
-put_ids-requires c = let e = ap length c.one-answer.ensures in omega (arith, e, c.if-n-gt2000.false)
 
 pub returns-in-Err : goal.returns-in-Err
 returns-in-Err c =

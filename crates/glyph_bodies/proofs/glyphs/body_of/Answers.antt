@@ -1,10 +1,10 @@
 -- `glyph_bodies::glyphs::body_of` meets its contract: the glyph and the tables say which charstring, and which calls.
-use Rattle.std.proofs.Common.{◌∙◌}
+use Rattle.std.proofs.Common.{refl, ◌∙◌}
 use Rattle.glyph_bodies.specs.GlyphsLaws.{charstring_inputs}
 use Rattle.glyph_bodies.proofs.glyphs.body_of.Goals as goal
 
 pub new-requires : goal.new-requires
-new-requires c = charstring_inputs c.args.one.now.asked _ c.ranks_in-locals.ensures _ c.item-code.ensures.0
+new-requires c = charstring_inputs c.args.one.now.asked _ refl _ c.item-code.ensures.0
 
 pub returns : goal.returns
 returns c =
@@ -12,7 +12,7 @@ returns c =
     record {
       code_is = r.code_is ∙ c.item-code.ensures.0;
       words_are = r.words_are;
-      locals_are = r.locals_are ∙ c.ranks_in-locals.ensures;
+      locals_are = r.locals_are;
       globals_are = r.globals_are;
       rows_are = r.rows_are;
       rises_so = r.rises_so;

@@ -1,6 +1,10 @@
 -- `measure::name_keyed::measure_planned` meets its contract: the length that was measured is that of the subset, which is tested.
+use Rattle.named_parts.specs.Subset.{ready_planned}
 use Rattle.measure.specs.MeasureLaws.{named_long, named-fits}
 use Rattle.measure.proofs.name_keyed.measure_planned.Goals as goal
+
+pub places_named-at-requires : goal.places_named-at-requires
+places_named-at-requires c = ready_planned c.args.c.now
 
 pub returns-then-end-gt-LONGEST : goal.returns-then-end-gt-LONGEST
 returns-then-end-gt-LONGEST c =

@@ -9,29 +9,29 @@ use Rattle.order.proofs.by_glyph.next_glyphs.Goals as goal
 use Rattle.order.proofs.by_glyph.next_glyphs.Goals.{After-has_bit, At-loop-g, then-has_bit, else-has_bit}
 
 -- where the loop stands
-stood : (l : At-loop-g) → Passing l.args.font.now (charset_start l.args.f.charset) (many_in l.args.f) l.loop-g.u l.loop-g.g
-    × Taking (ids_ahead l.args.font.now (charset_start l.args.f.charset) (many_in l.args.f)) (bit_in l.args.words.now 0) (many_in l.args.f) l.args.w.at
+stood : (l : At-loop-g) → Passing l.args.font.now.bytes.now (charset_start l.args.font.now.f.charset) (many_in l.args.font.now.f) l.loop-g.u l.loop-g.g
+    × Taking (ids_ahead l.args.font.now.bytes.now (charset_start l.args.font.now.f.charset) (many_in l.args.font.now.f)) (bit_in l.args.words.now 0) (many_in l.args.font.now.f) l.args.at
     l.args.window.now l.loop-g.window l.loop-g.k l.loop-g.g
-stood l = l.loop-g.invariant.1 (charset_start l.args.f.charset) (l.requires.3.by-glyph l.requires.5).passing
+stood l = l.loop-g.invariant.1 (charset_start l.args.font.now.f.charset) l.requires.2.ahead.passing
 
 -- by the ids as the contract names them
 taken_as : (l : At-loop-g)
-    → Taking (ids_of l.args.font.now l.args.f.charset (many_in l.args.f)) (bit_in l.args.words.now 0) (many_in l.args.f) l.args.w.at
+    → Taking (ids_of l.args.font.now.bytes.now l.args.font.now.f.charset (many_in l.args.font.now.f)) (bit_in l.args.words.now 0) (many_in l.args.font.now.f) l.args.at
     l.args.window.now l.loop-g.window l.loop-g.k l.loop-g.g
 taken_as l =
-    subst (λ (ids : List ℕ). Taking ids (bit_in l.args.words.now 0) (many_in l.args.f) l.args.w.at l.args.window.now l.loop-g.window l.loop-g.k l.loop-g.g)
-    (ids-ahead l.args.font.now l.args.f.charset (many_in l.args.f) (charset_start l.args.f.charset) refl) (stood l).1
+    subst (λ (ids : List ℕ). Taking ids (bit_in l.args.words.now 0) (many_in l.args.font.now.f) l.args.at l.args.window.now l.loop-g.window l.loop-g.k l.loop-g.g)
+    (ids-ahead l.args.font.now.bytes.now l.args.font.now.f.charset (many_in l.args.font.now.f) (charset_start l.args.font.now.f.charset) refl) (stood l).1
 
-sum_fits : (l : At-loop-g) → l.args.w.done + l.loop-g.k < 65536
+sum_fits : (l : At-loop-g) → l.args.done + l.loop-g.k < 65536
 sum_fits l =
     omega (
       arith,
-      glyphs_fit l.args.font.now l.args.f l.args.words.now l.args.w l.requires.3 l.requires.5 _ _ _ _ (taken_as l),
-      order-few l.args.font.now l.args.f l.args.words.now,
-      l.requires.0.ids.few,
+      glyphs_fit l.args.font.now.bytes.now l.args.font.now.f l.args.words.now l.args.done l.args.at l.args.cursor l.requires.2 _ _ _ _ (taken_as l),
+      order-few l.args.font.now.bytes.now l.args.font.now.f l.args.words.now,
+      l.args.font.now.good.ids.few,
     )
 
-more : (t : After-has_bit) → t.loop-g.g < many_in t.args.f
+more : (t : After-has_bit) → t.loop-g.g < many_in t.args.font.now.f
 more t = t.loop-g-test.true
 
 room : (t : After-has_bit) → t.loop-g.k < length t.args.window.now
@@ -46,8 +46,8 @@ overflow_add-result c = omega (arith, sum_fits (goal.at.overflow_add-result c).A
 
 pub returns-then-k-m : goal.returns-then-k-m
 returns-then-k-m c =
-    next_glyph c.args.font.now c.args.f c.args.words.now c.args.w c.requires.3 c.requires.5 _ _ _ _ (taken_as (goal.at.returns-then-k-m c).At-loop-g)
-    (omega (arith, c.requires.2, c.loop-g.invariant.0, c.if-k-m.true)) _ refl refl refl (stood (goal.at.returns-then-k-m c).At-loop-g).0
+    next_glyph c.args.font.now.bytes.now c.args.font.now.f c.args.words.now c.args.done c.args.at c.args.cursor c.requires.2 _ _ _ _ (taken_as (goal.at.returns-then-k-m c).At-loop-g)
+    (omega (arith, c.requires.1, c.loop-g.invariant.0, c.if-k-m.true)) _ refl _ (stood (goal.at.returns-then-k-m c).At-loop-g).0
 
 pub next_id-s-requires : goal.next_id-s-requires
 next_id-s-requires c = passing_ready _ _ _ _ _ (stood (goal.at.next_id-s-requires c).At-loop-g).0 c.loop-g-test.true
@@ -79,5 +79,5 @@ loop-g-preserved c =
 pub returns : goal.returns
 returns c =
     let s = stood (goal.at.returns c).At-loop-g in
-    next_glyph c.args.font.now c.args.f c.args.words.now c.args.w c.requires.3 c.requires.5 _ _ _ _ (taken_as (goal.at.returns c).At-loop-g)
-    (all_looked c.args.font.now c.args.f c.args.words.now c.args.w c.requires.3 c.requires.5 _ _ _ _ (taken_as (goal.at.returns c).At-loop-g) c.loop-g-test.false c.requires.4) _ refl (omega (arith, s.0.within)) refl s.0
+    next_glyph c.args.font.now.bytes.now c.args.font.now.f c.args.words.now c.args.done c.args.at c.args.cursor c.requires.2 _ _ _ _ (taken_as (goal.at.returns c).At-loop-g)
+    (all_looked c.args.font.now.bytes.now c.args.font.now.f c.args.words.now c.args.done c.args.at c.args.cursor c.requires.2 _ _ _ _ (taken_as (goal.at.returns c).At-loop-g) c.loop-g-test.false c.requires.3) _ (omega (arith, s.0.within)) _ s.0

@@ -9,4 +9,4 @@ use Rattle.order.proofs.by_glyph.next_glyphs.Given as goal
 abbrev pub invariant-loop-g : goal.invariant-loop-g
 invariant-loop-g l =
     (l.k ≤ length l.initial.window)
-    × ((v : CharsetCursor) → Passing l.font v l.n l.initial.u l.fn.w.at → Passing l.font v l.n l.u l.g × Taking (ids_ahead l.font v l.n) (bit_in l.words 0) l.n l.fn.w.at l.initial.window l.window l.k l.g)
+    × ((v : CharsetCursor) → Passing l.bytes v l.n l.initial.u l.fn.at → Passing l.bytes v l.n l.u l.g × Taking (ids_ahead l.bytes v l.n) (bit_in l.words 0) l.n l.fn.at l.initial.window l.window l.k l.g)

@@ -1,51 +1,48 @@
 -- `by_glyph::rises` meets its contract.
-use Rattle.std.proofs.Common.{Bool, List, ap, get_or, sym, ℕ, ◌+◌, ◌∙◌, ◌≡◌}
-use Rattle.charset.specs.CharsetPlaces.{ids_of}
-use Rattle.find.specs.FindLaws.{ids_ahead, ids-ahead, Passing, passing-start, passing_ready, passing_id, passing-next}
-use Rattle.order.specs.Order.{kept_in, rises_from, ids_for}
+use Rattle.std.proofs.Common.{arith, get_or, sym, ◌<◌, ◌∙◌, ◌≡◌}
+use Rattle.charset.specs.AheadLaws.{passed-start, passed_all, passed_inside, passed_id, passed-next}
+use Rattle.charset.specs.CharsetFound.{good_length}
+use Rattle.charset.specs.Ids.{ids}
 use Rattle.order.specs.RiseLaws.{rise-start, rise_done, rise-passed, rise_stops, rise-on}
 use Rattle.order.proofs.by_glyph.rises.Goals as goal
-use Rattle.order.proofs.by_glyph.rises.Lts.View as view
-use Rattle.order.proofs.by_glyph.rises.Goals.{After-has_bit, At-loop-g, then-has_bit+else-id-low, else-has_bit}
+use Rattle.order.proofs.by_glyph.rises.Goals.{In-Some, then-has_bit+else-id-low, else-has_bit}
 
-abbrev ids : At-loop-g → List ℕ
-ids l = ids_ahead l.args.font.now l.charset_start-u.result l.args.n
+inside : (t : In-Some) → t.loop-g.g < t.args.glyphs.now.n
+inside t = omega (arith, passed_inside _ _ _ t.loop-g.invariant.0 _ _ t.in-Some.ensures.steps, good_length _ _ _ t.args.glyphs.now.good)
 
--- all ids, as the contract names them
-all_ids : (l : At-loop-g) → ids l ≡ ids_of l.args.font.now l.args.c l.args.n
-all_ids l = ids-ahead _ l.args.c _ _ l.charset_start-u.ensures
+is : (t : In-Some) → t.in-Some.id ≡ get_or (ids t.args.glyphs.now) t.loop-g.g 0
+is t = passed_id _ _ _ t.loop-g.invariant.0 _ _ t.in-Some.ensures.steps
 
-as-told : (l : At-loop-g) (r : Bool) → r ≡ rises_from 0 (ids_for (ids l) (kept_in l.args.n l.args.words.now))
-    → r ≡ rises_from 0 (ids_for (ids_of l.args.font.now l.args.c l.args.n) (kept_in l.args.n l.args.words.now))
-as-told l r e = e ∙ ap (λ (x : List ℕ). rises_from 0 (ids_for x (kept_in l.args.n l.args.words.now))) (all_ids l)
-
-id_is : (t : After-has_bit) → t.next_id-s.result.id ≡ get_or (ids (view.up-At-loop-g _ _ _ _ _ t.before.before.before.before.before)) t.loop-g.g 0
-id_is t = passing_id _ _ _ t.loop-g.u _ t.loop-g.invariant.0 t.loop-g-test.true _ t.next_id-s.ensures.0
-
-passed : (t : After-has_bit) → Passing t.args.font.now t.charset_start-u.result t.args.n t.next_id-s.result.next (t.loop-g.g + 1)
-passed t = passing-next _ _ _ _ _ t.loop-g.invariant.0 t.loop-g-test.true _ t.next_id-s.ensures.0
+small : (t : In-Some) → t.in-Some.id < 65536
+small t = omega (arith, is t, t.iter-id-items.ensures.small t.loop-g.g)
 
 pub loop-g-init : goal.loop-g-init
-loop-g-init c =
-    (passing-start _ c.args.c _ _ c.requires.0 c.charset_start-u.ensures, rise-start _ _ _)
+loop-g-init c = (passed-start _ _ c.iter-id-items.ensures.all, rise-start _ _ _)
 
-pub next_id-s-requires : goal.next_id-s-requires
-next_id-s-requires c = passing_ready _ _ _ _ _ c.loop-g.invariant.0 c.loop-g-test.true
+pub has_bit-requires : goal.has_bit-requires
+has_bit-requires c = omega (arith, inside (goal.at.has_bit-requires c).In-Some, c.requires)
 
 pub returns-then-id-low : goal.returns-then-id-low
 returns-then-id-low c =
-    as-told (goal.at.returns-then-id-low c).At-loop-g _
-    (rise_stops _ _ _ _ _ c.loop-g.invariant.1 c.loop-g-test.true (sym c.has_bit.ensures ∙ c.if-has_bit.true) _ (id_is (goal.at.returns-then-id-low c).After-has_bit) c.if-id-low.true)
+    let t = (goal.at.returns-then-id-low c).In-Some in
+    rise_stops _ _ _ _ _ c.loop-g.invariant.1 (inside t) (sym c.has_bit.ensures ∙ c.if-has_bit.true) _ (is t) c.if-id-low.true
+
+pub overflow_add-low : goal.overflow_add-low
+overflow_add-low c = omega (arith, small (goal.at.overflow_add-low c).In-Some)
+
+pub overflow_step-g : goal.overflow_step-g
+overflow_step-g c = omega (arith, inside (goal.at.overflow_step-g c).In-Some, c.args.glyphs.now.good.few)
 
 pub loop-g-preserved : goal.loop-g-preserved
-loop-g-preserved c = (
-  passed (goal.at.loop-g-preserved c).After-has_bit,
-  elim c.if-has_bit.branch [
-    | then-has_bit+else-id-low w ↦ rw w.low-is (rise-on _ _ _ _ _ c.loop-g.invariant.1 c.loop-g-test.true (sym c.has_bit.ensures ∙ w.if-has_bit.true) _ (id_is (goal.at.loop-g-preserved c).After-has_bit) w.if-id-low.false
-        c.next_id-s.ensures.1)
-    | else-has_bit w ↦ rw w.low-is (rise-passed _ _ _ _ _ c.loop-g.invariant.1 c.loop-g-test.true (sym c.has_bit.ensures ∙ w.if-has_bit.false))
-  ],
-)
+loop-g-preserved c =
+    let t = (goal.at.loop-g-preserved c).In-Some in (
+      passed-next _ _ _ c.loop-g.invariant.0 _ _ c.in-Some.ensures.steps,
+      elim c.if-has_bit.branch [
+        | then-has_bit+else-id-low w ↦ rw w.low-is (rise-on _ _ _ _ _ c.loop-g.invariant.1 (inside t) (sym c.has_bit.ensures ∙ w.if-has_bit.true) _ (is t) w.if-id-low.false (small t))
+        | else-has_bit w ↦ rw w.low-is (rise-passed _ _ _ _ _ c.loop-g.invariant.1 (inside t) (sym c.has_bit.ensures ∙ w.if-has_bit.false))
+      ],
+    )
 
 pub returns : goal.returns
-returns c = as-told (goal.at.returns c).At-loop-g _ (rise_done _ _ _ _ _ c.loop-g.invariant.1 c.loop-g-test.false)
+returns c =
+    rise_done _ _ _ _ _ c.loop-g.invariant.1 (omega (arith, passed_all _ _ _ c.loop-g.invariant.0 c.in-None.ensures.steps.0, good_length _ _ _ c.args.glyphs.now.good))

@@ -1,5 +1,5 @@
 -- `plan::sizes::across` meets its contract.
-use Rattle.std.proofs.Common.{arith}
+use Rattle.std.proofs.Common.{arith, refl}
 use Rattle.fds.specs.UsedLaws.{not_used, is_used}
 use Rattle.plan.specs.AcrossLaws.{counting-start, counting-pass, counting-take, counted-one, counted_other}
 use Rattle.plan.proofs.sizes.across.Goals as goal
@@ -20,7 +20,7 @@ loop-fd-preserved c =
 
 pub returns-then-count-eq1 : goal.returns-then-count-eq1
 returns-then-count-eq1 c =
-    counted-one _ _ _ _ _ c.loop-fd.invariant (omega (arith, c.loop-fd-test.false)) c.if-count-eq1.true _ c.ranks_in.ensures
+    counted-one _ _ _ _ _ c.loop-fd.invariant (omega (arith, c.loop-fd-test.false)) c.if-count-eq1.true _ refl
 
 pub returns : goal.returns
 returns c =

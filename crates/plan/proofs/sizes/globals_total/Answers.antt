@@ -3,7 +3,7 @@ use Rattle.std.proofs.Common.{subst, sym}
 use Rattle.record.specs.Record.{rows_of}
 use Rattle.renumber.specs.declared.Ranks.{Ranks}
 use Rattle.bodies.specs.Ways.{SubrsIn}
-use Rattle.bodies.specs.declared.subrs.Subrs.TheVariants.{Global}
+use Rattle.reach.specs.declared.Subrs.TheVariants.{Global}
 use Rattle.plan.specs.Held.{program, written}
 use Rattle.plan.specs.MeasureLaws.{globals-measured}
 use Rattle.plan.proofs.sizes.globals_total.Goals as goal

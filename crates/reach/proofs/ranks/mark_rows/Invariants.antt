@@ -4,4 +4,4 @@ use Rattle.reach.proofs.ranks.mark_rows.Given as goal
 
 abbrev pub invariant-loop-i : goal.invariant-loop-i
 invariant-loop-i l =
-    Marking l.rows l.kind l.fd l.count l.initial.held l.held l.past l.i
+    Marking l.rows l.kind l.fd l.count l.initial.held l.held l.all l.i

@@ -2,10 +2,10 @@
 use Rattle.reach.specs.RankLaws.{globals-set, locals-set, ranked-part}
 use Rattle.reach.proofs.ranks.rank_reached.Goals as goal
 
-pub returns-then-global : goal.returns-then-global
-returns-then-global c =
-    ranked-part _ _ _ _ _ _ _ _ (globals-set _ _ _ c.if-global.true) c.words_for.ensures.0 c.requires.2 c.rank_rows.ensures
+pub returns-in-Global : goal.returns-in-Global
+returns-in-Global c =
+    ranked-part _ _ _ _ _ _ _ _ (globals-set _ _ c.in-Global.is) c.words_for.ensures.0 c.requires.2 c.rank_rows.ensures
 
-pub returns : goal.returns
-returns c =
-    ranked-part _ _ _ _ _ _ _ _ (locals-set _ _ _ c.if-global.false) c.words_for.ensures.0 c.requires.2 c.rank_rows-2.ensures
+pub returns-in-Local : goal.returns-in-Local
+returns-in-Local c =
+    ranked-part _ _ _ _ _ _ _ _ (locals-set _ _ _ c.in-Local.is) c.words_for.ensures.0 c.requires.2 c.rank_rows-in-Local.ensures

@@ -1,7 +1,8 @@
 -- `reach::ranks::rank_rows` meets its contract: words that are cleared, whose bits are set and counted.
+use Rattle.std.proofs.Common.{rules}
 use Rattle.reach.specs.RankLaws.{ranked-rows}
 use Rattle.reach.proofs.ranks.rank_rows.Goals as goal
 
 pub returns : goal.returns
 returns c =
-    ranked-rows _ c.before.args.held.now _ _ _ _ _ _ (λ i. (c.type_inv.rows i).fits) c.before.requires.0 c.before.requires.1 c.clear.ensures c.mark_rows-past.ensures _ c.sums_of.ensures
+    ranked-rows _ c.before.args.held.now _ _ _ _ _ _ (λ i. (c.type_inv.rows i).fits) c.before.requires.0 c.before.requires.1 (c.fill.ensures.after (search rules)) c.mark_rows-all.ensures _ c.sums_of.ensures

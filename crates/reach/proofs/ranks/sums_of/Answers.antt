@@ -4,4 +4,4 @@ use Rattle.reach.proofs.ranks.sums_of.Goals as goal
 
 pub returns : goal.returns
 returns c =
-    counts_as c.args.held.now c.args.past _ _ _ _ c.eighth-e.ensures c.whole_ones-reached.ensures.0 c.four_sums-low.ensures c.four_sums-high.ensures
+    counts_as c.args.held.now c.args.all _ _ _ _ c.eighth-e.ensures c.whole_ones-reached.ensures.0 c.four_sums-low.ensures c.four_sums-high.ensures

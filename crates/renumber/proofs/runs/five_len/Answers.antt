@@ -1,13 +1,10 @@
 -- `renumber::runs::five_len` meets its contract: where the bytes are there, the test of the definition on them.
-use Rattle.std.proofs.Common.{arith, false, true}
+use Rattle.std.proofs.Common.{arith, ◌∙◌}
 use Rattle.renumber.specs.ShortLaws.{five_cut, five_told}
 use Rattle.renumber.proofs.runs.five_len.Goals as goal
 
 pub returns-then-p-at-lt5 : goal.returns-then-p-at-lt5
 returns-then-p-at-lt5 c = five_cut _ _ (omega arith)
 
-pub returns-then-is_five : goal.returns-then-is_five
-returns-then-is_five c = five_told _ _ (omega arith) _ true _ _ c.is_five.ensures c.if-is_five.true (omega arith) (omega arith)
-
 pub returns : goal.returns
-returns c = five_told _ _ (omega arith) _ false _ _ c.is_five.ensures c.if-is_five.false (omega arith) (omega arith)
+returns c = c.then_some.ensures ∙ five_told _ _ (omega arith) _ _ _ c.is_five.ensures (omega arith) (omega arith)

@@ -1,14 +1,7 @@
 -- `renumber::turns::rank_in` meets its contract: the tests of the definition; where all are reached, a number is its own rank.
-use Rattle.std.proofs.Common.{arith}
-use Rattle.bits.specs.Bits.{bit_in}
-use Rattle.subset.specs.RankLaws.{count-few}
 use Rattle.renumber.specs.OperandLaws.{rank-kept}
 use Rattle.renumber.proofs.turns.rank_in.Goals as goal
 
 pub returns-then-q : goal.returns-then-q
 returns-then-q c =
     rank-kept c.args.of.now.words.now c.args.of.now.q c.args.of.now.ranked c.if-q.true c.args.i c.if-q-i.false
-
-pub overflow_add-result-then-has_bit : goal.overflow_add-result-then-has_bit
-overflow_add-result-then-has_bit c =
-    omega (arith, c.rank_below.ensures, count-few (bit_in c.args.of.now.words.now c.args.of.now.q.at) c.args.i, c.args.of.now.ranked.few, c.if-q-i.false)

@@ -1,8 +1,0 @@
-use Rattle.std.proofs.Common.{drop, ◌≡◌}
-use Rattle.find.specs.Find.{glyph_with_id}
-use Rattle.find.specs.FindLaws.{ids_ahead, Passing}
-use Rattle.find.proofs.find_id.Given as goal
-
-abbrev pub invariant-loop-g : goal.invariant-loop-g
-invariant-loop-g l =
-    Passing l.glyphs.bytes.now l.initial.u l.glyphs.n l.u l.g × (glyph_with_id l.id 0 (ids_ahead l.glyphs.bytes.now l.initial.u l.glyphs.n) ≡ glyph_with_id l.id l.g (drop l.g (ids_ahead l.glyphs.bytes.now l.initial.u l.glyphs.n)))
