@@ -109,10 +109,9 @@ count-any way reached count e = ap (λ (b : Bool). pick b reached count) (sym e)
 
 -- what renumbering an item asks, by ranks of those that it calls
 pub item_inputs : {b ws : List ℕ} {ix : Index} {own locals globals l g : Ranks} {rows : List Row} {rising : Bool} {of : Subrs}
-    → SubrsIn b ws ix own locals globals rows rising of → Ranked ws l → Ranked ws g → (k : ℕ) → k < ix.count → (s : List ℕ) → s ≡ get_or (items_of b ix) k [] → (site : code.Site)
-    → Inputs s ws l g rows rising site
-item_inputs {b} {ws} {ix} w p q k h s e site =
-    record { local_ranks = p; global_ranks = q; order = w.order; size = let n = ap length e in omega (arith, item-short b ix w.good k h, w.size) }
+    → SubrsIn b ws ix own locals globals rows rising of → Ranked ws l → Ranked ws g → (k : ℕ) → k < ix.count → (s : List ℕ) → s ≡ get_or (items_of b ix) k [] → Inputs s ws l g
+item_inputs {b} {ws} {ix} w p q k h s e =
+    record { local_ranks = p; global_ranks = q; size = let n = ap length e in omega (arith, item-short b ix w.good k h, w.size) }
 
 -- ---- a subroutine
 

@@ -55,10 +55,10 @@ body_by way rows calls site s = pick (is_renumbered way) (renumbered_body rows c
 
 -- the same of a body with what its renumbering reads
 abbrev pub new_by_way : Way → Body → List ℕ
-new_by_way way b = new_body way (rows_of b.rows.now) (calls_of b) (site_of b.site) b.code.now
+new_by_way way b = new_body way (rows_of b.rows.bytes.now) (calls_of b) (site_of b.site) b.code.now
 
 abbrev pub by_way : Way → Body → Option (List ℕ)
-by_way way b = body_by way (rows_of b.rows.now) (calls_of b) (site_of b.site) b.code.now
+by_way way b = body_by way (rows_of b.rows.bytes.now) (calls_of b) (site_of b.site) b.code.now
 
 -- the subroutines of an INDEX by the way, of which the set is reached; the same, or that their renumbering fails
 abbrev pub new_subrs : Way → List Row → (ℕ → Bool) → Calls → (ℕ → Site) → List (List ℕ) → List (List ℕ)

@@ -13,8 +13,7 @@ use Rattle.unfold.specs.Sites.{site_of}
 use Rattle.unfold.specs.declared.Site as code
 use Rattle.renumber.specs.Turn.{sized_of, body_of_lem}
 use Rattle.renumber.specs.Ranks.{calls_by}
-use Rattle.mask_rows.specs.MaskRows.{SameMasks, Fillable, Covers, HasOrNone}
-use Rattle.mask_rows.specs.FillLaws.{covers-none}
+use Rattle.mask_rows.specs.MaskRows.{SameMasks, Fillable, Covers, CoversOrNone}
 use Rattle.mask_rows.specs.SameLaws.{same_body}
 use Rattle.mask_rows.specs.declared.Window.{Window}
 use Rattle.long_bodies.specs.Offsets.{body_in, Sited}
@@ -89,24 +88,20 @@ fills_subr source a k h = record { kind_fits = kind-small source.of; fd_fits = f
 pub fills_global : {of : Subrs} {k : ℕ} → of ≡ Global → Fillable (kind_of of) (fd_of of) k → Fillable 4 0 k
 fills_global {of} {k} e p = subst (λ (x : Subrs). Fillable (kind_of x) (fd_of x) k) e p
 
-pub covers_global : {rec bytes : List ℕ} {of : Subrs} {w : Window} → of ≡ Global → Covers rec bytes (kind_of of) (fd_of of) w → Covers rec bytes 4 0 w
-covers_global {rec} {bytes} {of} {w} e p = subst (λ (x : Subrs). Covers rec bytes (kind_of x) (fd_of x) w) e p
+pub covers_global : {of : Subrs} → of ≡ Global → (rec bytes : List ℕ) (w : Option Window) → CoversOrNone rec bytes (kind_of of) (fd_of of) w → CoversOrNone rec bytes 4 0 w
+covers_global e rec bytes w p = subst (λ (x : Subrs). CoversOrNone rec bytes (kind_of x) (fd_of x) w) e p
 
-pub global_covers : {rec bytes : List ℕ} {of : Subrs} {w : Window} → of ≡ Global → Covers rec bytes 4 0 w → Covers rec bytes (kind_of of) (fd_of of) w
-global_covers {rec} {bytes} {of} {w} e p = subst (λ (x : Subrs). Covers rec bytes (kind_of x) (fd_of x) w) (sym e) p
+pub global_covers : {of : Subrs} → of ≡ Global → (rec bytes : List ℕ) (w : Option Window) → CoversOrNone rec bytes 4 0 w → CoversOrNone rec bytes (kind_of of) (fd_of of) w
+global_covers e rec bytes w p = subst (λ (x : Subrs). CoversOrNone rec bytes (kind_of x) (fd_of x) w) (sym e) p
 
 pub fills_local : {of : Subrs} {fd k : ℕ} → of ≡ Local fd → Fillable (kind_of of) (fd_of of) k → Fillable 3 fd k
 fills_local {of} {fd} {k} e p = subst (λ (x : Subrs). Fillable (kind_of x) (fd_of x) k) e p
 
-pub covers_local : {rec bytes : List ℕ} {of : Subrs} {fd : ℕ} {w : Window} → of ≡ Local fd → Covers rec bytes (kind_of of) (fd_of of) w → Covers rec bytes 3 fd w
-covers_local {rec} {bytes} {of} {fd} {w} e p = subst (λ (x : Subrs). Covers rec bytes (kind_of x) (fd_of x) w) e p
+pub covers_local : {of : Subrs} {fd : ℕ} → of ≡ Local fd → (rec bytes : List ℕ) (w : Option Window) → CoversOrNone rec bytes (kind_of of) (fd_of of) w → CoversOrNone rec bytes 3 fd w
+covers_local e rec bytes w p = subst (λ (x : Subrs). CoversOrNone rec bytes (kind_of x) (fd_of x) w) e p
 
-pub local_covers : {rec bytes : List ℕ} {of : Subrs} {fd : ℕ} {w : Window} → of ≡ Local fd → Covers rec bytes 3 fd w → Covers rec bytes (kind_of of) (fd_of of) w
-local_covers {rec} {bytes} {of} {fd} {w} e p = subst (λ (x : Subrs). Covers rec bytes (kind_of x) (fd_of x) w) (sym e) p
-
--- a window that has no body has what it says of any bytes
-pub covers-past : {rec : List ℕ} {kind fd : ℕ} {k : ℕ} {w : Window} → HasOrNone k w → w.end ≤ k → (bytes' : List ℕ) → Covers rec bytes' kind fd w
-covers-past {rec} {kind} {fd} {k} {w} none past bytes' = subst (λ (x : Window). Covers rec bytes' kind fd x) (sym (none past)) (covers-none rec bytes' kind fd)
+pub local_covers : {of : Subrs} {fd : ℕ} → of ≡ Local fd → (rec bytes : List ℕ) (w : Option Window) → CoversOrNone rec bytes 3 fd w → CoversOrNone rec bytes (kind_of of) (fd_of of) w
+local_covers e rec bytes w p = subst (λ (x : Subrs). CoversOrNone rec bytes (kind_of x) (fd_of x) w) (sym e) p
 
 -- ---- a body with more rows than a window holds
 

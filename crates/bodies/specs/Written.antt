@@ -6,7 +6,7 @@ use Rattle.unfold.specs.Sites.{site_of}
 use Rattle.renumber.specs.Bodies.{Reads}
 use Rattle.renumber.specs.declared.Ranks.{Ranks}
 use Rattle.renumber.specs.declared.body.Body.{Body}
-use Rattle.mask_rows.specs.MaskRows.{Covers}
+use Rattle.mask_rows.specs.MaskRows.{CoversOrNone}
 use Rattle.mask_rows.specs.declared.Window.{Window}
 use Rattle.bodies.specs.Ways.{site_in}
 use Rattle.bodies.specs.Sources.{kept_from, subr_from, subrs_from, new_subrs_from}
@@ -39,5 +39,5 @@ Bodied one locals globals b =
     × (site_of b.site ≡ site_in one.of.now.from.of one.k)
 
 -- the record in the first bytes of a slice has the rows of those that a window says
-abbrev pub Shows : Subroutines → List ℕ → Window → Type 0
-Shows all bytes w = Covers all.rows.now bytes (kind_of all.from.of) (fd_of all.from.of) w
+abbrev pub Shows : Subroutines → List ℕ → Option Window → Type 0
+Shows all bytes w = CoversOrNone all.rows.now bytes (kind_of all.from.of) (fd_of all.from.of) w

@@ -110,7 +110,7 @@ module _ (one : Subr) where
       body_written = by_way-reads from.way w.0 ∙ body_is from.way rows set calls from.of items one.k (site_of b.site) (get_or items one.k []) w.1 refl e
 
       new_written : new_by_way from.way b ≡ body_of_lem (written one)
-      new_written = new-body_is from.way (rows_of b.rows.now) (calls_of b) (site_of b.site) b.code.now ∙ ap body_of_lem body_written
+      new_written = new-body_is from.way (rows_of b.rows.bytes.now) (calls_of b) (site_of b.site) b.code.now ∙ ap body_of_lem body_written
 
       pub written-len : {r : Option ℕ} → (r ≡ sized_of (by_way from.way b)) × AtMost (5 * length b.code.now) r → (r ≡ sized_of (written one)) × AtMost 335544320 r
       written-len {r} h = (h.0 ∙ ap sized_of body_written, at_most_more (5 * length b.code.now) 335544320 (omega (arith, b.inputs.size)) r h.1)

@@ -29,6 +29,7 @@ pub const NO_RANKS: Ranks = Ranks {
 };
 
 // How bodies are written: the way, the bits of the globals, and whether the rows rise.
+// (`rising` stays here and in `Source` by itself: both are values of a plan, which has no rows; the `Rows` are made where both are at hand.)
 #[derive(Clone, Copy)]
 pub struct Manner {
     pub way: Way,

@@ -21,7 +21,7 @@ use mask_rows::lent::Lent;
 use octets::out::Out;
 use reach::Subrs;
 use renumber::Ranks;
-use renumber::body::Body;
+use renumber::body::{Body, rows_known};
 use subset::Way;
 use unfold::Site;
 
@@ -42,30 +42,21 @@ fn is_reached(all: &Subroutines<'_>, k: usize) -> bool
     ensures { result ≡ reached_in all.now.words.now all.now.from.own k }
 {
     let own = all.from.own;
-    if own.count <= k {
-        return false;
-    }
-    bits::has_bit(all.words, own.at, k)
+    k < own.count && bits::has_bit(all.words, own.at, k)
 }
 
 // Whether a subroutine is written.
 fn is_kept(all: &Subroutines<'_>, k: usize) -> bool
     ensures { result ≡ kept_of all.now k }
 {
-    if all.from.way == Way::Renumbered {
-        return is_reached(all, k);
-    }
-    true
+    all.from.way != Way::Renumbered || is_reached(all, k)
 }
 
 // Whether a subroutine stands as a return.
 fn is_stub(all: &Subroutines<'_>, k: usize) -> bool
     ensures { result ≡ is_stub all.now.from.way (reached_in all.now.words.now all.now.from.own) k }
 {
-    if all.from.way == Way::Stubbed {
-        return !is_reached(all, k);
-    }
-    false
+    all.from.way == Way::Stubbed && !is_reached(all, k)
 }
 
 // A subroutine as the record names it.
@@ -89,16 +80,9 @@ fn body_of<'a>(one: &Subr<'a>, locals: Ranks, globals: Ranks) -> Body<'a>
 {
     let all = one.of;
     let code = index::item(all.font, all.from.ix, one.k);
+    let rows = rows_known(all.rows, all.from.rising);
     let site = site_for(one);
-    Body::new(
-        code,
-        all.words,
-        locals,
-        globals,
-        all.rows,
-        all.from.rising,
-        site,
-    )
+    Body::new(code, all.words, locals, globals, rows, site)
 }
 
 // How long a subroutine is as it is written, or that its renumbering fails.
@@ -124,7 +108,7 @@ fn subr_len(one: &Subr<'_>) -> Option<usize>
 }
 
 // The window for a subroutine.
-fn advance(window: Window, one: &Subr<'_>, lent: &mut Lent<'_>) -> Window
+fn advance(window: Option<Window>, one: &Subr<'_>, lent: &mut Lent<'_>) -> Option<Window>
     requires { Shows one.now.of.now lent.old.bytes.now window }
     ensures { (Shows one.now.of.now lent.new.bytes.now result) × (HasOrNone one.now.k result) }
 {
@@ -179,38 +163,32 @@ fn long_len(one: &Subr<'_>, lent: &mut Lent<'_>) -> Option<usize>
     Some(0)
 }
 
-// How long a subroutine is, by a window of the record where it has the rows of the subroutine; a longer one takes the window's place.
-fn windowed_len(one: &Subr<'_>, window: Window, lent: &mut Lent<'_>) -> Option<usize>
+// How long a subroutine is, by a window of the record that has its rows; a longer one takes the window's place. (glyph_bodies has the same of charstrings: a trait
+// for both would be longer, since each has its own clauses of what it asks of the font and the words, and of what a part of the record says of it.)
+fn windowed_len(one: &Subr<'_>, window: Option<Window>, lent: &mut Lent<'_>) -> Option<usize>
     requires { (Shows one.now.of.now lent.old.bytes.now window) × (HasOrNone one.now.k window) }
     ensures { (result ≡ len_at (kept_of one.now.of.now) (subr_of one.now.of.now) one.now.k) × (AtMost 335544320 result)
         × (Shows one.now.of.now lent.new.bytes.now window) }
 {
+    let Some(window) = window else {
+        return long_len(one, lent);
+    };
+    let all = one.of;
     let k = one.k;
-    if k < window.from {
-        return subr_len(one);
-    }
-    if k < window.end {
-        let all = one.of;
-        let part = Subroutines {
-            from: in_order(all.from),
-            font: all.font,
-            words: all.words,
-            rows: lent.rows(window.len),
-        };
-        return subr_len(&Subr { of: &part, k });
-    }
-    long_len(one, lent)
+    let part = Subroutines {
+        from: in_order(all.from),
+        font: all.font,
+        words: all.words,
+        rows: lent.rows(window.len),
+    };
+    subr_len(&Subr { of: &part, k })
 }
 
 // Their bytes together, by windows of a record that does not rise.
 fn windows_total(all: &Subroutines<'_>, lent: &mut Lent<'_>) -> Option<usize>
     ensures { (result ≡ measured_of (subrs_of all.now)) × (Bounded result) }
 {
-    let mut window = Window {
-        from: 0,
-        end: 0,
-        len: 0,
-    };
+    let mut window = None;
     let mut total: usize = 0;
     for k in 0..all.from.ix.count {
         let one = Subr { of: &*all, k };
@@ -299,27 +277,24 @@ fn put_long(one: &Subr<'_>, out: &mut Out<'_>, lent: &mut Lent<'_>)
     crate::put_long_body(all.from.way, &long, out, lent)
 }
 
-// The same by a window of the record, where it has the rows of the subroutine; a longer one takes the window's place.
-fn put_windowed(one: &Subr<'_>, window: Window, out: &mut Out<'_>, lent: &mut Lent<'_>)
+// The same by a window of the record that has the rows of the subroutine; a longer one takes the window's place.
+fn put_windowed(one: &Subr<'_>, window: Option<Window>, out: &mut Out<'_>, lent: &mut Lent<'_>)
     requires { (Shows one.now.of.now lent.old.bytes.now window) × (HasOrNone one.now.k window)
         × (holds (written one.now) ≡ true) × (out.old.at + length (body_of_lem (written one.now)) ≤ length out.old.bytes.now) }
     ensures { (Writes out.old (body_of_lem (written one.now)) out.new) × (Shows one.now.of.now lent.new.bytes.now window) }
 {
+    let Some(window) = window else {
+        return put_long(one, out, lent);
+    };
+    let all = one.of;
     let k = one.k;
-    if k < window.from {
-        return put_subr(one, out);
-    }
-    if k < window.end {
-        let all = one.of;
-        let part = Subroutines {
-            from: in_order(all.from),
-            font: all.font,
-            words: all.words,
-            rows: lent.rows(window.len),
-        };
-        return put_subr(&Subr { of: &part, k }, out);
-    }
-    put_long(one, out, lent)
+    let part = Subroutines {
+        from: in_order(all.from),
+        font: all.font,
+        words: all.words,
+        rows: lent.rows(window.len),
+    };
+    put_subr(&Subr { of: &part, k }, out)
 }
 
 // Their INDEX, by windows of a record that does not rise.
@@ -333,11 +308,7 @@ fn put_windows(m: &Measured<'_>, out: &mut Out<'_>, lent: &mut Lent<'_>)
     let ix = index::index_for(out.at, count, m.total);
     index::put_head(&mut *out, count, m.total);
     out.at = ix.base + 1;
-    let mut window = Window {
-        from: 0,
-        end: 0,
-        len: 0,
-    };
+    let mut window = None;
     let mut put: usize = 0;
     for k in 0..n {
         if is_kept(all, k) {

@@ -13,6 +13,7 @@ use Rattle.reach.specs.Reach.{ranks_of}
 use Rattle.order_window.specs.declared.Order.{Order}
 use Rattle.order_window.specs.Window.{glyphs_of, Gathered}
 use Rattle.own_strings.specs.declared.Own.{Own}
+use Rattle.own_strings.specs.declared.slots.Slot.{Slot}
 use Rattle.glyph_tables.specs.Tables.{kept_fds}
 use Rattle.front.specs.Front.{SlotsReady, Measured}
 use Rattle.fds.specs.Locals.{fds_in}
@@ -28,7 +29,7 @@ use Rattle.cid_parts.specs.CidPlacesLaws.{strings_ready, own-few}
 use Rattle.by_cid.specs.CidKeptLaws.{CidOrdered, cut_ordered, fds_counted, cid_ready, cut-planned}
 
 -- the slots, the work words, the window and the tables are ready for a cut, and its outcome is that of the kept glyphs
-pub record Prepares (b rec : List ℕ) (flag : ℕ) (o : Order) (ws slots new window : List ℕ) (t : Tables) (c : Prepared) : Type 0 where
+pub record Prepares (b rec : List ℕ) (flag : ℕ) (o : Order) (ws : List ℕ) (slots : List Slot) (new window : List ℕ) (t : Tables) (c : Prepared) : Type 0 where
   pub cid : CidReady b (rows_of rec) t.used new c.plan t.table
   pub summed : Summed b (rows_of rec) t.used new c.plan t.table t.totals
   pub strings : StringsReady (program_of b c.plan.order.f) slots c.own
@@ -37,7 +38,7 @@ pub record Prepares (b rec : List ℕ) (flag : ℕ) (o : Order) (ws slots new wi
   pub cuts : (name out out' : List ℕ) (room : ℕ) (a : Result Subsetted Refusal)
       → Cut (sized c.plan.how.way (cid_bytes b (rows_of rec) t.used new c.plan name) room) out out' a → Cut (cut_ordered b rec name flag o ws room) out out' a
 
-module _ (b rec : List ℕ) (flag : ℕ) (o : Order) (ws window : List ℕ) (h : CidOrdered b o ws window) (slots : List ℕ) (own : Own) (measured : Measured (own_by_cid (program_of b o.f)) own)
+module _ (b rec : List ℕ) (flag : ℕ) (o : Order) (ws window : List ℕ) (h : CidOrdered b o ws window) (slots : List Slot) (own : Own) (measured : Measured (own_by_cid (program_of b o.f)) own)
     (ready : SlotsReady (program_of b o.f) true slots) (table : List ℕ) (long : 256 ≤ length table) (t : Tables)
     (ranks : t.used ≡ put table 0 (ranks_of (λ d. is_in d (kept_fds b o.f ws)) 0 256)) (count : ℕ) (counted : count ≡ count_below (λ d. is_in d (kept_fds b o.f ws)) 256)
     (u : Order) (same : u.f ≡ o.f) (walked : u.count ≡ o.count) (new : List ℕ) (r : Planned) (planned : r.order.f ≡ u.f) (many : r.order.count ≡ u.count)

@@ -18,6 +18,7 @@ use order_window::Order;
 use order_window::window::Kept;
 use outcome::tables::{Parts, Tables};
 use outcome::{Prepared, Subsetted};
+use own_strings::slots::{NO_SLOT, Slot};
 use refusal::Refusal;
 
 // The subset, measured, and then in the front of the output, if it is not too long for a subset or for the output.
@@ -47,10 +48,10 @@ fn plan_cut(
     asked: &Asked<'_>,
     words: &mut [u32],
     window: &mut [u32],
-    slots: &mut [usize],
+    slots: &mut [Slot; 8],
     tables: &mut Tables,
 ) -> Prepared
-    requires { (CidOrdered font.now o words.old window.old) × (16 ≤ length slots.old) }
+    requires { CidOrdered font.now o words.old window.old }
     ensures { Prepares font.now asked.now.rows.now (flag_of asked.now.traced) o words.old slots.new words.new window.new tables.new result }
 {
     let loaded = Loaded {
@@ -83,17 +84,18 @@ fn plan_cut(
 
 // What the subset of the kept glyphs is written from. Its string ids cannot be refused, since a CID-keyed subset has at most 8 own strings. Three lifetimes,
 // since Rattle shortens none behind a reference: with one, no caller could lend arrays of its own.
+// by_name `prepare` differs in the middle: one function for both would take each `plan_cut` as a closure over the lent arrays, and is no plainer.
 pub fn prepare<'a, 'f: 'a, 'n: 'a>(
     font: &Held<'f>,
     keep: &[u16],
     asked: &Asked<'n>,
     words: &'a mut [u32],
     window: &'a mut [u32],
-    slots: &'a mut [usize],
+    slots: &'a mut [Slot; 8],
     tables: &'a mut Tables,
 ) -> CidSubset<'a>
     requires { (Passed true false (program font.now.loaded) (length asked.now.name.now) keep.now asked.now.rows.now (flag_of asked.now.traced) (length words.old))
-        × (0 < length window.old) × (16 ≤ length slots.old) }
+        × (0 < length window.old) }
     ensures { CutsAs result (cut_behind false (program font.now.loaded) asked.now.name.now keep.now asked.now.rows.now (flag_of asked.now.traced)) }
 {
     let bytes = font.loaded.bytes;
@@ -132,7 +134,7 @@ pub fn cut_cid(
         out.old out.new result }
 {
     let mut window = [0u32; 4096];
-    let mut slots = [0usize; 16];
+    let mut slots = [NO_SLOT; 8];
     let mut tables = Tables::new();
     let mut c = prepare(
         font,

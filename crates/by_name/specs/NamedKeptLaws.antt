@@ -1,21 +1,15 @@
--- Laws of the kept glyphs of a name-keyed cut: what each step asks of them, the codes behind the slots, and that the cut of the glyphs that were gathered
--- is the cut.
-use Rattle.std.specs.Prelude.{ℕ, zero, suc, ◌+◌, ◌≤◌, ◌<◌, ◌≡◌, refl, Bool, false, List, [], ◌∷◌, ◌++◌, length, take, drop, get_or, set, Result, Err}
-use Rattle.std.proofs.Common.{sym, ap, ◌∙◌, subst, arith, length-set, length-take-le, take_all, take-take}
-use Rattle.std.proofs.Math.ListN.{get_or-append}
-use Rattle.std.proofs.Math.Seq.{take-append_seam, drop-append_seam}
+-- Laws of the kept glyphs of a name-keyed cut: what each step asks of them, and that the cut of the glyphs that were gathered is the cut.
+use Rattle.std.specs.Prelude.{ℕ, ◌≤◌, ◌<◌, ◌≡◌, Bool, false, List, [], ◌∷◌, length, get_or, Option, Result, Err}
+use Rattle.std.proofs.Common.{sym, ap, ◌∙◌, subst, arith}
 use Rattle.octets.specs.Pick.{pick}
-use Rattle.octets.specs.Octets.{put}
-use Rattle.octets.specs.PutLaws.{put_nil, put-length, put_next}
 use Rattle.dict.specs.Lookup.{cid_keyed}
 use Rattle.cff.specs.Font.{Program}
 use Rattle.cff.specs.Reads.{program_of}
 use Rattle.cff.specs.declared.font.Font.{Font}
 use Rattle.index.specs.IndexLaws.{items-length}
 use Rattle.subset.specs.Kept.{kept_of, sorted_by, written_order, used_fds, keeps}
-use Rattle.subset.specs.Texts.{own_strings_lem}
 use Rattle.subset.specs.Pruned.{pruned}
-use Rattle.subset.specs.Codes.{Pair, Coded, pairs, coded_if}
+use Rattle.subset.specs.Codes.{Coded, pairs, coded_if}
 use Rattle.subset.specs.Subset.{own_by_name}
 use Rattle.subset.specs.Cut.{Outcome, own_of, all_found_lem, written}
 use Rattle.faithful.specs.UsedLaws.{used-one}
@@ -30,101 +24,20 @@ use Rattle.small.specs.Small.{small_size}
 use Rattle.front.specs.Front.{SlotsReady, Measured}
 use Rattle.front.specs.ApartLaws.{names_apart}
 use Rattle.own_strings.specs.declared.Own.{Own}
-use Rattle.own_strings.specs.Slots.{slot_ids, slot_texts}
+use Rattle.own_strings.specs.declared.slots.Slot.{Slot}
 use Rattle.name_strings.specs.Names.{NamesApart}
-use Rattle.outcome.specs.BothLaws.{part_stays}
 use Rattle.faithful.specs.FontHeld.{FontHeld}
 use Rattle.outcome.specs.OutcomeLaws.{cut-strings, cut-pairs}
 use Rattle.outcome.specs.Entry.{cut_behind, Cut, Passed}
-use Rattle.named_parts.specs.Named.{coded_for, named_outcome, NamedStrings, NamedCodes, NamedCut}
+use Rattle.named_parts.specs.Named.{named_outcome, NamedStrings, NamedCodes, NamedCut}
 use Rattle.named_parts.specs.NamedPutLaws.{can_rename}
-use Rattle.encoding.specs.Encoded.{pairs_of, pair_in, pairs_in, coded_in, Encodes, CanRename}
+use Rattle.encoding.specs.Encoded.{pairs_of, coded_in, Encodes, CanRename}
 use Rattle.encoding.specs.EncodedLaws.{encodes_self}
 use Rattle.encoding.specs.declared.Encoding.{Encoding}
 use Rattle.by_name.specs.NamedLaws.{named-strings}
 use Rattle.outcome.specs.declared.Subsetted.{Subsetted}
 use Rattle.refusal.specs.declared.Refusal.{Refusal}
 use Rattle.refusal.specs.declared.Refusal.TheVariants.{StringId, Pairs}
-use Rattle.encoding.specs.declared.Encoding.TheVariants.{Absent, Expert, Pairs as SomePairs}
-
--- ---- codes behind the slots
-
--- the codes of an encoding stand behind the sixteen slots, which stay
-pub record CodesBehind (coded : Coded) (old new : List ℕ) (e : Encoding) : Type 0 where
-  pub front : take 16 new ≡ take 16 old
-  pub long : length new ≡ length old
-  pub is : Encodes coded (drop 16 new) e
-
--- the pairs of a table go by its places alone
-pairs-front : (table rest : List ℕ) (n code : ℕ) → code + n ≤ length table → pairs_in (table ++ rest) n code ≡ pairs_in table n code
-unfolding pairs_in
-pairs-front table rest zero code h = refl
-pairs-front table rest (suc n) code h =
-    ap (λ (x : ℕ). pair_in code x ++ pairs_in (table ++ rest) n (code + 1)) (get_or-append table rest 0 code (omega arith))
-    ∙ ap (λ (l : List Pair). pair_in code (get_or table code 0) ++ l) (pairs-front table rest n (code + 1) (omega arith))
-
-encodes-front : (coded : Coded) (table rest : List ℕ) (e : Encoding) → 256 ≤ length table → Encodes coded table e → Encodes coded (table ++ rest) e
-encodes-front coded table rest e long h = record { is = front e ∙ h.is; many = h.many; small = h.small }
-  where
-    front : (x : Encoding) → coded_in x (table ++ rest) ≡ coded_in x table
-    front Absent = refl
-    front Expert = refl
-    front (SomePairs n) = ap pairs (pairs-front table rest 256 0 long)
-
--- so many of its codes were put there
-pub record Putting (old table new : List ℕ) (code : ℕ) : Type 0 where
-  pub within : code ≤ 256
-  pub size : length new ≡ length old
-  pub is : new ≡ put old 16 (take code table)
-
-pub putting_start : (old table : List ℕ) → Putting old table old 0
-putting_start old table = record { within = omega arith; size = refl; is = sym (put_nil old 16) }
-
-pub putting_next : (old table new : List ℕ) (code : ℕ) → 272 ≤ length old → 256 ≤ length table → code < 256 → Putting old table new code
-    → Putting old table (set new (16 + code) (get_or table code 0)) (code + 1)
-putting_next old table new code room long more p =
-    record {
-      within = omega arith;
-      size = length-set new (16 + code) (get_or table code 0) ∙ p.size;
-      is = ap (λ (l : List ℕ). set l (16 + code) (get_or table code 0)) p.is ∙ put_next old 16 table code (omega arith) (omega arith);
-    }
-
-pub putting_end : (old table new : List ℕ) (code : ℕ) → 256 ≤ code → Putting old table new code → new ≡ put old 16 (take 256 table)
-putting_end old table new code h p =
-    let e : code ≡ 256 = omega (arith, p.within) in
-    p.is ∙ ap (λ (n : ℕ). put old 16 (take n table)) e
-
--- all were
-pub codes-behind : (coded : Coded) (old table new : List ℕ) (e : Encoding) → 272 ≤ length old → length table ≡ 256 → new ≡ put old 16 (take 256 table) → Encodes coded table e
-    → CodesBehind coded old new e
-unfolding put
-codes-behind coded old table new e room long is h =
-    let all : take 256 table ≡ table = take_all 256 table (omega arith) in
-    let n : length (take 16 old) ≡ 16 = length-take-le 16 old (omega arith) in
-    let rest = drop (16 + length table) old in
-    let e₁ : new ≡ take 16 old ++ (table ++ rest) = is ∙ ap (λ (l : List ℕ). take 16 old ++ (l ++ drop (16 + length l) old)) all in
-    record {
-      front = ap (take 16) e₁ ∙ ap (λ (m : ℕ). take m (take 16 old ++ (table ++ rest))) (sym n) ∙ take-append_seam (take 16 old) (table ++ rest);
-      long = ap length is ∙ put-length old 16 (take 256 table) (omega (arith, ap length all));
-      is =
-          subst (λ (l : List ℕ). Encodes coded l e)
-          (sym (ap (drop 16) e₁ ∙ ap (λ (m : ℕ). drop m (take 16 old ++ (table ++ rest))) (sym n) ∙ drop-append_seam (take 16 old) (table ++ rest)))
-          (encodes-front coded table rest e (omega arith) h);
-    }
-
--- slots that stay are as ready
-slots_stay : (p : Program) (cid : Bool) (old new : List ℕ) → SlotsReady p cid old → length new ≡ length old → take 16 new ≡ take 16 old → SlotsReady p cid new
-slots_stay p cid old new r l e =
-    let a : take 8 new ≡ take 8 old = sym (take-take 8 16 new (omega arith)) ∙ ap (take 8) e ∙ take-take 8 16 old (omega arith) in
-    let d : take 8 (drop 8 new) ≡ take 8 (drop 8 old) = part_stays 8 8 16 old new (omega arith) e in
-    record {
-      front = a ∙ r.front;
-      given =
-          record {
-            room = omega (arith, l, r.given.room);
-            ids = d ∙ r.given.ids ∙ ap (λ (s : List ℕ). slot_ids (own_strings_lem [] (slot_texts p.strings s)) p.strings s) (sym a);
-          };
-    }
 
 -- ---- the cut of the kept glyphs
 
@@ -156,7 +69,7 @@ module _ (ask : Bool) (b rec : List ℕ) (flag : ℕ) (o : Order) (ws window : L
   abbrev coded : Coded
   coded = coded_if ask p order (own_by_name p order)
 
-  module _ (own : Own) (slots : List ℕ) (measured : Measured (own_by_name p order) own) (ready : SlotsReady p false slots) where
+  module _ (own : Own) (slots : List Slot) (measured : Measured (own_by_name p order) own) (ready : SlotsReady p false slots) where
     counted : own.count ≡ length (own_of p order)
     counted = ap (λ (x : Own). x.count) measured.is ∙ sym (ap length (named-strings p h.keyed order))
 
@@ -169,36 +82,31 @@ module _ (ask : Bool) (b rec : List ℕ) (flag : ℕ) (o : Order) (ws window : L
     pub names-rename : CanRename b o.f ws slots
     names-rename = can_rename b o.f ws slots (record { good = h.read.font; small = h.read.size }) ready h.apart
 
-    module _ (few : own.count ≤ 64609) (slots₂ : List ℕ) (e : Encoding) (behind : CodesBehind coded slots slots₂ e) (wide : length slots ≡ 272) where
+    module _ (few : own.count ≤ 64609) (codes : List (Option ℕ)) (e : Encoding) (made : Encodes coded codes e) where
       -- too many pairs
       pub pairs_refused : 255 < pairs_of e → (name out : List ℕ) → Cut (cut_ordered ask b rec name flag o ws (length out)) out out (Err Pairs)
       pairs_refused l name out =
           cut-pairs p coded name order order (length out) (pruned p (rows_of rec) (0 ∷ []) order flag) out (omega (arith, few, counted))
-          (omega (arith, l, behind.is.many))
+          (omega (arith, l, made.many))
 
       module _ (fit : pairs_of e ≤ 255) where
-        pub strings_there : (m : ℕ) → m ≤ 65535 → NamedStrings p order slots₂ own m
+        pub strings_there : (m : ℕ) → m ≤ 65535 → NamedStrings p order slots own m
         strings_there m short =
             record {
-              ready = slots_stay p false slots slots₂ ready behind.long behind.front;
+              ready = ready;
               measured = measured;
               few = few;
               short = short;
             }
 
-        pub codes_there : NamedCodes e slots₂
-        codes_there =
-            record {
-              is = encodes_self _ (drop 16 slots₂) e behind.is;
-              few = fit;
-              long = omega (arith, behind.long, wide);
-            }
+        pub codes_there : NamedCodes e codes
+        codes_there = record { is = encodes_self _ codes e made; few = fit }
 
         pub named-cut : (name out out' : List ℕ) (a : Result Subsetted Refusal)
-            → Cut (named_outcome p (coded_for e slots₂) name order (length out) (pruned p (rows_of rec) (0 ∷ []) order flag)) out out' a
+            → Cut (named_outcome p (coded_in e codes) name order (length out) (pruned p (rows_of rec) (0 ∷ []) order flag)) out out' a
             → Cut (cut_ordered ask b rec name flag o ws (length out)) out out' a
         named-cut name out out' a c =
-            subst (λ (x : Coded). Cut (named_outcome p x name order (length out) (pruned p (rows_of rec) (0 ∷ []) order flag)) out out' a) behind.is.is c
+            subst (λ (x : Coded). Cut (named_outcome p x name order (length out) (pruned p (rows_of rec) (0 ∷ []) order flag)) out out' a) made.is c
 
 -- ---- the cut of the glyphs that were gathered is the cut
 

@@ -1,5 +1,5 @@
 -- Laws of a planned cut of a name-keyed font: its outcome by the tests of the code.
-use Rattle.std.specs.Prelude.{ℕ, ◌≤◌, ◌<◌, ◌≡◌, refl, Bool, false, List, length, Err}
+use Rattle.std.specs.Prelude.{ℕ, ◌≤◌, ◌<◌, ◌≡◌, refl, Bool, false, List, length, Option, Err}
 use Rattle.std.proofs.Common.{sym, ◌∙◌, subst, arith}
 use Rattle.std.proofs.Math.Path.{ap}
 use Rattle.octets.specs.Pick.{pick}
@@ -15,13 +15,15 @@ use Rattle.subset.specs.Subset.{own_by_name, own_by_cid, subset_by_name, subset_
 use Rattle.subset.specs.Cut.{own_of}
 use Rattle.order_window.specs.Window.{glyphs_of}
 use Rattle.own_strings.specs.declared.Own.{Own}
+use Rattle.own_strings.specs.declared.slots.Slot.{Slot}
 use Rattle.renumber.specs.declared.Ranks.{Ranks}
 use Rattle.parts.specs.Ready.{bodies_for}
 use Rattle.parts.specs.declared.Planned.{Planned}
 use Rattle.outcome.specs.Layout.{named-length}
 use Rattle.outcome.specs.OutcomeLaws.{cut_long, cut-room, cut-written}
 use Rattle.outcome.specs.Entry.{Cut, a_cut}
-use Rattle.named_parts.specs.Named.{coded_for, named_outcome, NamedPlan, NamedStrings, NamedCodes, PlacedNamed}
+use Rattle.named_parts.specs.Named.{named_outcome, NamedPlan, NamedStrings, NamedCodes, PlacedNamed}
+use Rattle.encoding.specs.Encoded.{coded_in}
 use Rattle.encoding.specs.declared.Encoding.{Encoding}
 use Rattle.front.specs.declared.NamedPlaces.{NamedPlaces}
 use Rattle.refusal.specs.declared.Refusal.TheVariants.{Subset, Output}
@@ -39,14 +41,14 @@ module _ (p : Program) (keyed : cid_keyed p.top ≡ false) where
 -- ---- measured, tested and written
 
 module _ (b : List ℕ) (rows : List Row) (used ws : List ℕ) (r : Planned) (table : List Ranks) (totals : List ℕ)
-    (g : NamedPlan b rows used ws r table totals) (name slots : List ℕ) (own : Own)
-    (t : NamedStrings (program_of b r.order.f) (glyphs_of b r.order.f ws) slots own (length name)) (e : Encoding) (coding : NamedCodes e slots) (at : NamedPlaces)
-    (placed : PlacedNamed (program_of b r.order.f) (coded_for e slots) name (glyphs_of b r.order.f ws) (bodies_for b rows used ws r) at) (out : List ℕ) where
+    (g : NamedPlan b rows used ws r table totals) (name : List ℕ) (slots : List Slot) (own : Own)
+    (t : NamedStrings (program_of b r.order.f) (glyphs_of b r.order.f ws) slots own (length name)) (e : Encoding) (codes : List (Option ℕ)) (coding : NamedCodes e codes) (at : NamedPlaces)
+    (placed : PlacedNamed (program_of b r.order.f) (coded_in e codes) name (glyphs_of b r.order.f ws) (bodies_for b rows used ws r) at) (out : List ℕ) where
   abbrev p : Program
   p = program_of b r.order.f
 
   abbrev coded : Coded
-  coded = coded_for e slots
+  coded = coded_in e codes
 
   abbrev order : List ℕ
   order = glyphs_of b r.order.f ws

@@ -20,6 +20,7 @@ use Rattle.order_window.specs.Window.{glyphs_of}
 use Rattle.order_window.specs.OrderLaws.{order_below}
 use Rattle.order_window.specs.GatheredLaws.{glyphs_many}
 use Rattle.own_strings.specs.declared.Own.{Own}
+use Rattle.own_strings.specs.declared.slots.Slot.{Slot}
 use Rattle.own_strings.specs.Slots.{word_names, Different}
 use Rattle.name_strings.specs.Names.{NamesApart}
 use Rattle.fds.specs.Locals.{in_use_lem, fds_in}
@@ -103,7 +104,7 @@ module _ (b : List ℕ) (o : Order) (ws window : List ℕ) (h : NamedCut b o ws 
           apart = apart_stays;
         }
 
-    pub prepared_strings : (slots : List ℕ) (own : Own) (m : ℕ) → NamedStrings p order slots own m
+    pub prepared_strings : (slots : List Slot) (own : Own) (m : ℕ) → NamedStrings p order slots own m
         → NamedStrings (program_of b r.order.f) (glyphs_of b r.order.f ws') slots own m
     prepared_strings slots own m s =
         subst (λ (f : Font). NamedStrings (program_of b f) (glyphs_of b f ws') slots own m) (sym same)

@@ -3,16 +3,10 @@
 
 ghost use Rattle.std.specs.Prelude.{false, ◌≡◌, ◌≤◌, ◌<◌, length};
 ghost use Rattle.cff.specs.Loaded.{program};
-ghost use Rattle.cff.specs.Reads.{program_of};
-ghost use Rattle.subset.specs.Codes.{coded_if};
 ghost use Rattle.subset.specs.Flag.{flag_of};
-ghost use Rattle.subset.specs.Subset.{own_by_name};
-ghost use Rattle.order_window.specs.Stays.{kept_glyphs, Stays};
-ghost use Rattle.encoding.specs.Encoded.{CanRename};
 ghost use Rattle.outcome.specs.Entry.{cut_behind, Cut, Passed};
 ghost use Rattle.named_parts.specs.Named.{NamedCut};
 ghost use Rattle.named_parts.specs.Subset.{outcome_in};
-ghost use Rattle.by_name.specs.NamedKeptLaws.{CodesBehind};
 ghost use Rattle.by_name.specs.Prepares.{CutsAs, Prepares};
 
 use asked::Asked;
@@ -24,6 +18,7 @@ use order_window::Order;
 use order_window::window::Kept;
 use outcome::tables::{Parts, Tables};
 use outcome::{Prepared, Subsetted};
+use own_strings::slots::{NO_SLOT, Slot};
 use parts::plan_all;
 use refusal::Refusal;
 
@@ -39,7 +34,7 @@ fn cut_planned(c: &mut NamedSubset<'_>, out: &mut [u8]) -> Result<Subsetted, Ref
     ensures { Cut (outcome_in c.old (length out.old)) out.old out.new result }
 {
     let how = c.parts.cut.plan.how;
-    let at = places_named(c.kept.font, c.kept.words, &c.parts, c.encoding);
+    let at = places_named(c.kept.font, c.kept.words, &c.parts, c.encoding, c.codes);
     let end = at.end;
     if octets::LONGEST < end {
         return Err(Refusal::Subset);
@@ -54,21 +49,6 @@ fn cut_planned(c: &mut NamedSubset<'_>, out: &mut [u8]) -> Result<Subsetted, Ref
     })
 }
 
-// What the subset has of an encoding; its codes stand behind the sixteen slots, which are read while they are made.
-pub fn encode_behind(kept: &mut Kept<'_>, ask: bool, slots: &mut [usize]) -> Encoding
-    requires { (CanRename kept.old.font.now kept.old.o.f kept.old.words.now slots.old) × (272 ≤ length slots.old) }
-    ensures { (CodesBehind
-        (coded_if ask (program_of kept.old.font.now kept.old.o.f) (kept_glyphs kept.old)
-        (own_by_name (program_of kept.old.font.now kept.old.o.f) (kept_glyphs kept.old)))
-        slots.old slots.new result)
-        × (Stays kept.old kept.new) }
-{
-    let mut table = [0usize; 256];
-    let encoding = encode(kept, ask, &*slots, &mut table);
-    slots[16..272].copy_from_slice(&table);
-    encoding
-}
-
 // The plan of the cut of the kept glyphs: strings, encoding where it is asked for, and the plan of the bodies, FD 0 being in use; or refused: a string id,
 // pairs.
 fn plan_cut(
@@ -78,11 +58,12 @@ fn plan_cut(
     asked: &Asked<'_>,
     words: &mut [u32],
     window: &mut [u32],
-    slots: &mut [usize],
+    slots: &mut [Slot; 8],
+    codes: &mut [Option<u32>; 256],
     tables: &mut Tables,
 ) -> Result<CodedCut, Refusal>
-    requires { (NamedCut font.now o words.old window.old) × (length slots.old ≡ 272) }
-    ensures { Prepares ask font.now asked.now.rows.now (flag_of asked.now.traced) o words.old slots.new words.new window.new tables.new result }
+    requires { NamedCut font.now o words.old window.old }
+    ensures { Prepares ask font.now asked.now.rows.now (flag_of asked.now.traced) o words.old slots.new codes.new words.new window.new tables.new result }
 {
     let mut kept = Kept {
         font,
@@ -94,7 +75,7 @@ fn plan_cut(
     if 64609 < own.count {
         return Err(Refusal::StringId);
     }
-    let encoding = encode_behind(&mut kept, ask, slots);
+    let encoding = encode(&mut kept, ask, &*slots, codes);
     if 255 < encoding.pairs() {
         return Err(Refusal::Pairs);
     }
@@ -128,11 +109,12 @@ pub fn prepare<'a, 'f: 'a, 'n: 'a>(
     asked: &Asked<'n>,
     words: &'a mut [u32],
     window: &'a mut [u32],
-    slots: &'a mut [usize],
+    slots: &'a mut [Slot; 8],
+    codes: &'a mut [Option<u32>; 256],
     tables: &'a mut Tables,
 ) -> Result<NamedSubset<'a>, Refusal>
     requires { (Passed false ask (program font.now.loaded) (length asked.now.name.now) keep.now asked.now.rows.now (flag_of asked.now.traced) (length words.old))
-        × (0 < length window.old) × (length slots.old ≡ 272) }
+        × (0 < length window.old) }
     ensures { CutsAs (cut_behind ask (program font.now.loaded) asked.now.name.now keep.now asked.now.rows.now (flag_of asked.now.traced)) result }
 {
     let bytes = font.loaded.bytes;
@@ -145,6 +127,7 @@ pub fn prepare<'a, 'f: 'a, 'n: 'a>(
         &mut *words,
         &mut *window,
         &mut *slots,
+        &mut *codes,
         &mut *tables,
     )?;
     let parts = Parts {
@@ -156,7 +139,7 @@ pub fn prepare<'a, 'f: 'a, 'n: 'a>(
         totals: &tables.totals,
         rows: asked.rows,
     };
-    Ok(NamedSubset::new(bytes, &*words, window, parts, coded.encoding))
+    Ok(NamedSubset::new(bytes, &*words, window, parts, coded.encoding, &*codes))
 }
 
 // The subset in the front of the output, with its encoding where it is asked for; or refused as above, or too long. The work words are used.
@@ -173,7 +156,8 @@ pub fn cut_named(
         out.old out.new result }
 {
     let mut window = [0u32; 4096];
-    let mut slots = [0usize; 272];
+    let mut slots = [NO_SLOT; 8];
+    let mut codes = [None; 256];
     let mut tables = Tables::new();
     let mut c = prepare(
         font,
@@ -183,6 +167,7 @@ pub fn cut_named(
         words,
         &mut window,
         &mut slots,
+        &mut codes,
         &mut tables,
     )?;
     cut_planned(&mut c, out)

@@ -3,6 +3,7 @@ pub mod Fields
 pub mod FieldsLaws
 pub mod Lines
 pub mod LinesLaws
+pub mod LinesLeft
 pub mod Tally
 pub mod TallyLaws
 pub mod Report

@@ -1,11 +1,11 @@
 -- Laws of lines: the first and the others, and whether a line agrees, by the code's tests.
-use Rattle.std.specs.Prelude.{ℕ, suc, ◌+◌, ◌-◌, ◌≤◌, ◌<◌, ◌≡◌, refl, Bool, true, false, List, [], ◌∷◌, eqb, take, drop, get_or}
-use Rattle.std.proofs.Common.{ap, ◌∙◌, not-suc-le-zero, arith, length-drop, drop_of_length-le, drop-drop, take_all}
+use Rattle.std.specs.Prelude.{ℕ, suc, ◌+◌, ◌-◌, ◌≤◌, ◌<◌, ◌≡◌, refl, min, Bool, true, false, List, [], ◌∷◌, leb, eqb, take, drop, get_or}
+use Rattle.std.proofs.Common.{sym, ap, ◌∙◌, not-suc-le-zero, arith, length-drop, drop_of_length-le, take_all, leb-true, leb-false}
 use Rattle.std.proofs.Math.ListN.{length}
 use borrow.Author.Tests.{eq-eqb, ne_eqb, lt-ltb, le-ltb, le-leb, lt-leb}
 use Rattle.octets.specs.Pick.{pick}
 use Rattle.octets.specs.Lists.{before}
-use Rattle.hexlines.specs.Hexlines.{line_end, field_end_lem}
+use Rattle.hexlines.specs.Hexlines.{field_end_lem}
 use Rattle.cases.specs.Fields.{field_bytes, both_same}
 use Rattle.cases.specs.Lines.{in_front, lines_of, Answering, answer_of, agrees}
 
@@ -30,21 +30,29 @@ lines-one : (l : List ℕ) → 0 < length l → lines_of l ≡ take (before 10 l
 lines-one [] h = absurd (not-suc-le-zero h)
 lines-one (x ∷ xs) h = lines_cut x xs
 
-pub lines_next : (s : List ℕ) (at end : ℕ) → at < length s → end ≡ line_end s at
-    → lines_of (drop at s) ≡ take (end - at) (drop at s) ∷ lines_of (drop (end + 1) s)
-unfolding line_end
-lines_next s at end h e =
-    let b = before 10 (drop at s) in
-    let m : b ≡ end - at = omega (arith, e) in
-    let n : at + suc b ≡ end + 1 = omega (arith, e) in
-    lines-one (drop at s) (rw length-drop (omega arith))
-    ∙ ap (λ (l : List ℕ). take b (drop at s) ∷ lines_of l) (drop-drop (suc b) at s)
-    ∙ ap (λ (j : ℕ). take b (drop at s) ∷ lines_of (drop j s)) n
-    ∙ ap (λ (j : ℕ). take j (drop at s) ∷ lines_of (drop (end + 1) s)) m
+-- behind the first, by the code's place: the end of the text where no line feed stands there
+pub lines_first : (s : List ℕ) (end from : ℕ) → 0 < length s → end ≡ before 10 s → from ≡ min (length s) (end + 1)
+    → lines_of s ≡ take end s ∷ lines_of (take (length s - from) (drop from s))
+lines_first s end from h e f = lines-one s h ∙ ap (λ (k : ℕ). take k s ∷ lines_of (drop (suc k) s)) (sym e) ∙ ap (λ (l : List ℕ). take end s ∷ lines_of l) (sym same)
+  where
+    behind : (t : Bool) → leb (length s) (end + 1) ≡ t → drop from s ≡ drop (suc end) s
+    behind true g =
+        let l = leb-true (length s) (end + 1) g in
+        let m : length s ≤ suc end = omega (arith, l) in
+        let n : length s ≤ from = omega (arith, f, l) in
+        drop_of_length-le s n ∙ sym (drop_of_length-le s m)
+    behind false g =
+        let l = leb-false (length s) (end + 1) g in
+        let e : from ≡ suc end = omega (arith, f, l) in
+        ap (λ (k : ℕ). drop k s) e
 
-pub lines_none : (s : List ℕ) (at : ℕ) → length s ≤ at → lines_of (drop at s) ≡ []
+    same : take (length s - from) (drop from s) ≡ drop (suc end) s
+    same = take_all (length s - from) (drop from s) (rw length-drop (omega arith)) ∙ behind (leb (length s) (end + 1)) refl
+
+pub lines_none : (s : List ℕ) → length s ≡ 0 → lines_of s ≡ []
 unfolding lines_of
-lines_none s at h = ap lines_of (drop_of_length-le s h)
+lines_none [] e = refl
+lines_none (x ∷ s) e = absurd (omega arith)
 
 -- ---- whether a line agrees, by the code's tests
 

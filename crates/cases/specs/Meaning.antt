@@ -1,9 +1,10 @@
 -- What a report of stored cases (tools/oracle/README.md, 'Lines') means: where its last line says `all agreed`, each line of the text is a case and our answer its answer; and its counts add
 -- up to the number of lines.
 use Rattle.std.specs.Prelude.{ℕ, zero, suc, ◌+◌, ◌-◌, ◌*◌, ◌≤◌, ◌<◌, ◌≡◌, refl, Bool, true, false, ltb, leb, eqb, take, drop, get_or, set, replicate, None, Option, Some}
-use Rattle.std.proofs.Common.{sym, ap, not-suc-le-zero, eqb-true}
+use Rattle.std.proofs.Common.{sym, ap, not-suc-le-zero}
 use Rattle.std.proofs.lemmas.Bool.{false≢true}
-use mathlib.Core.List.{List, [], ◌∷◌, ◌++◌}
+use Rattle.std.proofs.lemmas.Option.{none-some}
+use mathlib.Core.List.{List, [], ◌∷◌}
 use native.Mathlib.Omega.{arith}
 use Rattle.std.proofs.Math.ListN.{length}
 use Rattle.std.proofs.lemmas.List.{length-replicate}
@@ -15,7 +16,7 @@ use Rattle.cases.specs.Fields.{field_bytes, both_same}
 use Rattle.cases.specs.Lines.{Answering, lines_of, answer_of, agrees}
 use Rattle.cases.specs.Tally.{counted, counted_all, first_failed, place_of}
 use Rattle.cases.specs.TallyLaws.{place-small, counted-length}
-use Rattle.cases.specs.Report.{all_agreed, first_word, word_bytes, first_bytes}
+use Rattle.cases.specs.Report.{all_agreed, word_bytes, first_bytes}
 
 -- ---- a line that agrees
 
@@ -55,26 +56,23 @@ agrees_means answer line e =
 
 -- ---- all lines
 
-pub first-agrees : (agree : List ℕ → Bool) (n : ℕ) (ls : List (List ℕ)) → first_failed agree n ls ≡ 0 → (i : ℕ) → i < length ls → agree (get_or ls i []) ≡ true
+pub first-agrees : (agree : List ℕ → Bool) (n : ℕ) (ls : List (List ℕ)) → first_failed agree n ls ≡ None → (i : ℕ) → i < length ls → agree (get_or ls i []) ≡ true
 unfolding first_failed
 first-agrees agree n [] e i h = absurd (not-suc-le-zero h)
 first-agrees agree n (l ∷ ls) e i h = go (agree l) refl e (first-agrees agree (n + 1) ls) i h
   where
-    go : (t : Bool) → agree l ≡ t → pick t (first_failed agree (n + 1) ls) (n + 1) ≡ 0
-        → (first_failed agree (n + 1) ls ≡ 0 → (j : ℕ) → j < length ls → agree (get_or ls j []) ≡ true)
+    go : (t : Bool) → agree l ≡ t → pick t (first_failed agree (n + 1) ls) (Some (n + 1)) ≡ None
+        → (first_failed agree (n + 1) ls ≡ None → (j : ℕ) → j < length ls → agree (get_or ls j []) ≡ true)
         → (j : ℕ) → j < suc (length ls) → agree (get_or (l ∷ ls) j []) ≡ true
     go true f z rest zero k = f
     go true f z rest (suc j) k = rest z j (omega arith)
-    go false f z rest j k = absurd (let y : ⊥ = omega arith in y)
+    go false f z rest j k = absurd (none-some (n + 1) (sym z))
 
 -- the last line says `all agreed` only where no line failed
-pub says_all : (first : ℕ) → first_bytes first ≡ all_agreed → first ≡ 0
+pub says_all : (first : Option ℕ) → first_bytes first ≡ all_agreed → first ≡ None
 unfolding first_bytes word_bytes
-says_all first e = go (eqb first 0) refl e
-  where
-    go : (t : Bool) → eqb first 0 ≡ t → pick t all_agreed (word_bytes first_word first ++ (10 ∷ [])) ≡ all_agreed → first ≡ 0
-    go true f h = eqb-true first 0 f
-    go false f h = absurd (let z : ◌≡◌ {A = ℕ} 102 97 = ap (λ (l : List ℕ). get_or l 0 0) h in (let y : ⊥ = omega arith in y))
+says_all None e = refl
+says_all (Some line) e = absurd (let z : ◌≡◌ {A = ℕ} 102 97 = ap (λ (l : List ℕ). get_or l 0 0) e in (let y : ⊥ = omega arith in y))
 
 pub all-agreed : (answer : Answering) (text : List ℕ) → first_bytes (first_failed (agrees answer) 0 (lines_of text)) ≡ all_agreed
     → (i : ℕ) → i < length (lines_of text) → Agrees answer (get_or (lines_of text) i [])

@@ -1,6 +1,6 @@
 -- What is printed of a text of stored cases (tools/oracle/README.md, 'Lines'): a row for each kind and one, `?`, for lines of no kind, each with how many agreed and how many
 -- failed; then the first line that failed, or that all agreed.
-use Rattle.std.specs.Prelude.{ℕ, zero, suc, ◌+◌, ◌*◌, ◌/◌, ◌%◌, List, [], ◌∷◌, ◌++◌, ltb, eqb, length, take, get_or, replicate}
+use Rattle.std.specs.Prelude.{ℕ, zero, suc, ◌+◌, ◌*◌, ◌/◌, ◌%◌, List, [], ◌∷◌, ◌++◌, ltb, length, take, get_or, replicate, None, Option, Some}
 use Rattle.octets.specs.Pick.{pick}
 use Rattle.cases.specs.Lines.{Answering, lines_of, agrees}
 use Rattle.cases.specs.Tally.{counted_all, first_failed}
@@ -43,15 +43,16 @@ rows_bytes [] counts i = []
 rows_bytes (k ∷ ks) counts i = row_bytes k (get_or counts i 0) (get_or counts (i + 1) 0) ++ rows_bytes ks counts (i + 2)
 
 -- the last line
-unfoldable pub first_bytes : ℕ → List ℕ
-first_bytes first = pick (eqb first 0) all_agreed (word_bytes first_word first ++ (10 ∷ []))
+unfoldable pub first_bytes : Option ℕ → List ℕ
+first_bytes None = all_agreed
+first_bytes (Some line) = word_bytes first_word line ++ (10 ∷ [])
 
 -- the row of lines that are of no kind
 unfoldable pub other_bytes : List ℕ → List ℕ → List ℕ
 other_bytes kinds counts = row_bytes 63 (get_or counts (2 * length kinds) 0) (get_or counts (2 * length kinds + 1) 0)
 
 -- the rows and the last line
-unfoldable pub report_bytes : List ℕ → List ℕ → ℕ → List ℕ
+unfoldable pub report_bytes : List ℕ → List ℕ → Option ℕ → List ℕ
 report_bytes kinds counts first = (rows_bytes kinds counts 0 ++ other_bytes kinds counts) ++ first_bytes first
 
 -- `text too long` and a line feed

@@ -1,7 +1,7 @@
 -- Laws of the report: the digits that `io::decimal` writes, how long the parts are, and the rows one by one.
 use Prim.Native.Nat.{ℕ, zero, suc, ◌+◌, ◌-◌, ◌*◌, ◌/◌, ◌%◌, ◌^◌, ◌≤◌, ◌<◌}
-use Rattle.std.specs.Prelude.{◌≡◌, refl, Bool, true, false, ltb, leb, eqb, length, take, get_or, replicate}
-use Rattle.std.proofs.Common.{sym, ◌∙◌, pow-suc, div-lt_iff_lt-mul, not-suc-le-zero, lit<, length-append, drop-cons, length-take-le, lt-ltb, le-ltb, leb-true, leb-false, ne_eqb}
+use Rattle.std.specs.Prelude.{◌≡◌, refl, Bool, true, false, ltb, leb, length, take, get_or, replicate, None, Option, Some}
+use Rattle.std.proofs.Common.{sym, ◌∙◌, pow-suc, div-lt_iff_lt-mul, not-suc-le-zero, lit<, length-append, drop-cons, length-take-le, lt-ltb, le-ltb, leb-true, leb-false}
 use Rattle.std.proofs.Math.Path.{ap}
 use mathlib.Core.List.{List, [], ◌∷◌, ◌++◌}
 use Rattle.std.proofs.Math.Nat.{pow-le-pow_right}
@@ -15,7 +15,7 @@ use Rattle.octets.specs.Octets.{Wrote}
 use Rattle.octets.specs.PutLaws.{wrote-length}
 use Rattle.cases.specs.Lines.{Answering, lines_of, agrees}
 use Rattle.cases.specs.Tally.{counted_all, first_failed}
-use Rattle.cases.specs.Report.{decimal, agreed_word, failed_word, all_agreed, first_word, word_bytes, tally_bytes, row_bytes, rows_bytes, other_bytes, first_bytes, report_bytes, too_long, report_of}
+use Rattle.cases.specs.Report.{decimal, agreed_word, failed_word, first_word, word_bytes, tally_bytes, row_bytes, rows_bytes, other_bytes, first_bytes, report_bytes, too_long, report_of}
 
 -- a digit
 glyph_digit : (d : ℕ) → d < 10 → hex_digit_ascii d ≡ 48 + d
@@ -69,20 +69,10 @@ pub row-length : (kind a f : ℕ) → length (row_bytes kind a f) ≤ 58
 unfolding row_bytes
 row-length kind a f = rw length-append (omega (arith, tally-length a f))
 
-pub first-length : (first : ℕ) → length (first_bytes first) ≤ 39
+pub first-length : (first : Option ℕ) → length (first_bytes first) ≤ 39
 unfolding first_bytes
-first-length first =
-    pick_ind (λ (l : List ℕ). length l ≤ 39) (eqb first 0) _ _ (λ e. omega arith)
-    (λ e. rw length-append (omega (arith, word-length first_word first)))
-
--- the last line, by the code's test
-pub first-none : (first : ℕ) → first ≡ 0 → all_agreed ≡ first_bytes first
-unfolding first_bytes
-first-none first e = rw e
-
-pub first_some : (first : ℕ) → (first ≡ 0 → ⊥) → word_bytes first_word first ++ (10 ∷ []) ≡ first_bytes first
-unfolding first_bytes
-first_some first n = rw (ne_eqb first 0 n)
+first-length None = omega arith
+first-length (Some line) = rw length-append (omega (arith, word-length first_word line))
 
 -- ---- the rows, one by one
 
@@ -124,14 +114,14 @@ pub other_length : (kinds counts : List ℕ) → length (other_bytes kinds count
 unfolding other_bytes
 other_length kinds counts = row-length 63 (get_or counts (2 * length kinds) 0) (get_or counts (2 * length kinds + 1) 0)
 
-pub report_length : (kinds counts : List ℕ) (first : ℕ) → length kinds ≤ 24 → length (report_bytes kinds counts first) ≤ 2048
+pub report_length : (kinds counts : List ℕ) (first : Option ℕ) → length kinds ≤ 24 → length (report_bytes kinds counts first) ≤ 2048
 unfolding report_bytes
 report_length kinds counts first h =
     rw (length-append, length-append) (omega (arith, rows-length kinds counts 0, other_length kinds counts, first-length first))
 
 -- ---- the report of a buffer, by the code's test
 
-module _ (answer : Answering) (kinds buffer counts : List ℕ) (n first : ℕ) where
+module _ (answer : Answering) (kinds buffer counts : List ℕ) (n : ℕ) (first : Option ℕ) where
   pub report_read : n < length buffer → counts ≡ counted_all (agrees answer) kinds (replicate 50 0) (lines_of (take n buffer))
       → first ≡ first_failed (agrees answer) 0 (lines_of (take n buffer)) → report_bytes kinds counts first ≡ report_of answer kinds buffer n
   unfolding report_of

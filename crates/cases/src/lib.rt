@@ -4,15 +4,6 @@
 pub mod answer;
 pub mod fields;
 pub mod inputs;
+pub mod lines;
 pub mod report;
 pub mod tally;
-
-ghost use Rattle.std.specs.Prelude.{◌≡◌};
-ghost use Rattle.octets.specs.Pick.{pick};
-
-// The byte of a sign: 1 if negative.
-pub fn sign_of(neg: bool) -> u8
-    ensures { result ≡ pick neg 1 0 }
-{
-    u8::from(neg)
-}

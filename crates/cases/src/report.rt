@@ -53,16 +53,17 @@ fn put_rows(kinds: &[u8], counts: &[usize], out: &mut Out<'_>)
     }
 }
 
-fn put_first(first: usize, out: &mut Out<'_>)
+fn put_first(first: Option<usize>, out: &mut Out<'_>)
     requires { out.old.at + 58 ≤ length out.old.bytes.now }
     ensures { Writes out.old (first_bytes first) out.new }
 {
-    if first == 0 {
-        out.copy(b"all agreed\n");
-        return;
+    match first {
+        None => out.copy(b"all agreed\n"),
+        Some(line) => {
+            put_count(b"first failed line ", line, out);
+            out.byte(b'\n');
+        }
     }
-    put_count(b"first failed line ", first, out);
-    out.byte(b'\n');
 }
 
 // The row of lines that are of no kind.
@@ -75,7 +76,7 @@ fn put_other(kinds: &[u8], counts: &[usize], out: &mut Out<'_>)
 }
 
 // The report of a text, from the start of out on; its length.
-pub fn put_report(kinds: &[u8], counts: &[usize], first: usize, out: &mut [u8]) -> usize
+pub fn put_report(kinds: &[u8], counts: &[usize], first: Option<usize>, out: &mut [u8]) -> usize
     requires { (length kinds.now ≤ 24) × (2 * length kinds.now + 2 ≤ length counts.now) × (2048 ≤ length out.old) }
     ensures { (Wrote out.old 0 (report_bytes kinds.now counts.now first) out.new result) × IsPrefixLen result out.new }
 {

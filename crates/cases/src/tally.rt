@@ -1,30 +1,13 @@
 // The counts of lines: two for each kind, and two for lines of no kind. They are plain numbers, for the report's definitions speak of one list of them.
 ghost use Rattle.std.specs.Prelude.{◌+◌, ◌*◌, ◌≤◌, ◌≡◌, length, get_or};
 ghost use Rattle.octets.specs.Lists.{before};
-ghost use Rattle.cases.specs.Tally.{is_one_of, counted, earlier, Below};
+ghost use Rattle.cases.specs.Tally.{counted, earlier, Below};
 
-// Whether a kind is one of the letters. A kind is the letter of a line, which may be any.
-pub fn is_one_of(letters: &[u8], kind: u8) -> bool
-    ensures { result ≡ is_one_of letters.now kind }
-{
-    hexlines::place_of(letters, kind) < letters.len()
-}
-
-// The letter of a line, 0 for an empty one.
-fn letter_of(line: &[u8]) -> u8
-    ensures { result ≡ get_or line.now 0 0 }
-{
-    if line.len() == 0 {
-        return 0;
-    }
-    line[0]
-}
-
-// The row of the report in which a line is counted: by its letter, the one behind the kinds for any other.
+// The row of the report in which a line is counted: by its letter, the one behind the kinds for any other. An empty line has 0 for its letter.
 fn row_of(kinds: &[u8], line: &[u8]) -> usize
     ensures { (result ≡ before (get_or line.now 0 0) kinds.now) × (result ≤ length kinds.now) }
 {
-    hexlines::place_of(kinds, letter_of(line))
+    hexlines::place_of(kinds, line.first().copied().unwrap_or(0))
 }
 
 // Counts a line: in its row, agreed stands before failed.
@@ -42,15 +25,12 @@ pub fn count_line(kinds: &[u8], line: &[u8], agreed: bool, counts: &mut [usize])
     counts[k] += 1;
 }
 
-// The first line that failed, 0 for none, after one more line.
-pub fn first_failed(first: usize, line: usize, agreed: bool) -> usize
+// The first line that failed, after one more line.
+pub fn first_failed(first: Option<usize>, line: usize, agreed: bool) -> Option<usize>
     ensures { result ≡ earlier first line agreed }
 {
     if agreed {
         return first;
     }
-    if first == 0 {
-        return line;
-    }
-    first
+    first.or(Some(line))
 }

@@ -17,7 +17,8 @@ use index::Index;
 use refusal::Refusal;
 
 // The font dictionaries of a font. Of a CID-keyed font: the DICTs of its FDs, and its FDSelect. Of a name-keyed one: its Private DICT, and
-// its encoding. And how many words a bit for each local subroutine takes, of all Private DICTs together.
+// its encoding. And how many words a bit for each local subroutine takes, of all Private DICTs together. One struct for both keyings, since definitions and loops
+// read a name-keyed font as one of FD 0 for each glyph, and a CID-keyed one as of the standard encoding: an enum would be matched only to get at the same.
 #[derive(Clone, Copy)]
 pub struct Parts {
     pub dicts: Index,

@@ -111,7 +111,7 @@ pub fn kind_of(kind: u8) -> ItemKind
     }
 }
 
-// 1 for a CID-keyed font, 0 for a name-keyed one.
+// 1 for a CID-keyed font, 0 for a name-keyed one. (Definitions say it by `pick`, which this clause brings to those who call it.)
 pub fn keying(cid: bool) -> u64
     ensures { result ≡ pick cid 1 0 }
 {

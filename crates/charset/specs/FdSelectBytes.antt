@@ -1,17 +1,22 @@
 -- A written FDSelect (TN5176, section 19, format 3; the Rust's `fd_select_format3`): the format, how many ranges, the first glyph and the FD
 -- of each, and behind them the count of glyphs. A range starts wherever the FD changes.
-use Rattle.std.specs.Prelude.{ℕ, ◌+◌, ◌*◌, List, [], ◌∷◌, ◌++◌, length, eqb}
+use Rattle.std.specs.Prelude.{ℕ, ◌+◌, ◌*◌, Bool, false, List, [], ◌∷◌, ◌++◌, length, eqb, None, Option, Some}
 use Rattle.octets.specs.Pick.{pick}
 use Rattle.octets.specs.Octets.{bytes_of}
 
--- the ranges, first glyph and FD, of glyphs from g on that stand behind one of FD last
-unfoldable pub changes : ℕ → ℕ → List ℕ → List (ℕ × ℕ)
-changes last g [] = []
-changes last g (fd ∷ fds) = pick (eqb fd last) (changes last (g + 1) fds) ((g, fd) ∷ changes fd (g + 1) fds)
+-- whether an FD is the last one
+abbrev pub is_last : Option ℕ → ℕ → Bool
+is_last (Some last) fd = eqb last fd
+is_last None fd = false
 
--- the ranges of all glyphs: 256 is no FD, so that glyph 0 starts one
+-- the ranges, first glyph and FD, of glyphs from g on that stand behind one of FD last, if behind any
+unfoldable pub changes : Option ℕ → ℕ → List ℕ → List (ℕ × ℕ)
+changes last g [] = []
+changes last g (fd ∷ fds) = pick (is_last last fd) (changes last (g + 1) fds) ((g, fd) ∷ changes (Some fd) (g + 1) fds)
+
+-- the ranges of all glyphs: glyph 0 starts one
 abbrev pub fd_ranges : List ℕ → List (ℕ × ℕ)
-fd_ranges fds = changes 256 0 fds
+fd_ranges fds = changes None 0 fds
 
 -- two bytes for the first glyph of a range and one for its FD
 unfoldable pub entry_bytes : List (ℕ × ℕ) → List ℕ

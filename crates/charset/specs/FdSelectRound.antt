@@ -1,12 +1,12 @@
 -- An FDSelect that was written reads back.
 use Prim.Native.Nat.{ℕ, zero, suc, ◌+◌, ◌≤◌, ◌<◌}
-use Rattle.std.specs.Prelude.{◌≡◌, refl, Bool, true, false, take, get_or, ltb, eqb, Ok}
+use Rattle.std.specs.Prelude.{◌≡◌, refl, false, take, get_or, ltb, eqb, Ok, None, Some}
 use Rattle.std.proofs.Math.Path.{sym, ap}
 use Rattle.std.proofs.Common.{◌∙◌, not-suc-le-zero, add-zero, arith, lt-ltb, le-ltb, eqb-true, ext_get_or, drop-drop}
 use mathlib.Core.List.{List, [], ◌∷◌, ◌++◌, append_assoc}
 use Rattle.std.proofs.Math.ListN.{length, drop, length-append}
 use Rattle.octets.specs.Pick.{pick, pick_ind}
-use Rattle.octets.specs.Octets.{be, bytes_of, Octets}
+use Rattle.octets.specs.Octets.{be, bytes_of}
 use Rattle.octets.specs.OctetsLaws.{length-bytes, be-front, drop-front}
 use Rattle.charset.specs.Listed.{list_of}
 use Rattle.charset.specs.ListedLaws.{list_length, list_at}
@@ -74,46 +74,54 @@ back-new last g x fds count bs h k =
 
 -- the bytes behind the FD of a range under way, whichever glyphs are left
 back : (last g : ℕ) (fds post : List ℕ) → g + length fds < 65536
-    → Back last g fds (length (changes last g fds)) (behind (changes last g fds) (g + length fds) post)
+    → Back last g fds (length (changes (Some last) g fds)) (behind (changes (Some last) g fds) (g + length fds) post)
 unfolding changes entry_bytes
 back last g [] post h = rw (add-zero g) (back_none last g post (omega arith))
 back last g (x ∷ fds) post h =
     let e : g + 1 + length fds ≡ g + suc (length fds) = omega arith in
-    pick_ind (λ (rs : List (ℕ × ℕ)). Back last g (x ∷ fds) (length rs) (behind rs (g + suc (length fds)) post)) (eqb x last) _ _
-    (λ t. back-same last g x fds _ _ (eqb-true x last t) (rw e at (back last (g + 1) fds post (omega arith))))
+    pick_ind (λ (rs : List (ℕ × ℕ)). Back last g (x ∷ fds) (length rs) (behind rs (g + suc (length fds)) post)) (eqb last x) _ _
+    (λ t. back-same last g x fds _ _ (sym (eqb-true last x t)) (rw e at (back last (g + 1) fds post (omega arith))))
     (λ t. rw append_assoc (back-new last g x fds _ _ (omega arith) (rw e at (back x (g + 1) fds post (omega arith)))))
 
 -- ---- the whole table
 
--- before the first range there is no glyph of FD 256
-not_before : (t : Bool) (x fd : ℕ) → fd < 256 → pick t 256 x ≡ fd → x ≡ fd
-not_before true x fd h e = absurd (omega arith)
-not_before false x fd h e = e
+-- before the first range there is no glyph: whatever FD it had
+record Whole (fds : List ℕ) (count : ℕ) (bs : List ℕ) : Type 0 where
+  read : Back 0 0 fds count bs
+  first : be 0 (take 2 bs) ≡ 0
 
-module _ (fds : List ℕ) (small : Octets fds) (count : ℕ) (bs : List ℕ) (k : Back 256 0 fds count bs) where
+whole : (fds post : List ℕ) → length fds < 65536 → Whole fds (length (fd_ranges fds)) (behind (fd_ranges fds) (length fds) post)
+unfolding changes entry_bytes
+whole [] post h = record { read = back_none 0 0 post (omega arith); first = be-front 2 0 post (omega arith) }
+whole (x ∷ fds) post h =
+    let e : 1 + length fds ≡ suc (length fds) = omega arith in
+    let rs = changes (Some x) 1 fds in
+    let k : Back x 1 fds (length rs) (behind rs (suc (length fds)) post) = rw e at (back x 1 fds post (omega arith)) in
+    rw append_assoc (record { read = back-new 0 0 x fds _ _ (omega arith) k; first = be-front 2 0 (x ∷ behind rs (suc (length fds)) post) (omega arith) })
+
+module _ (fds : List ℕ) (count : ℕ) (bs : List ℕ) (w : Whole fds count bs) where
   fds_are : list_of (fd_in 2 count (be 0 (take 2 bs)) (drop 2 bs)) 0 (length fds) ≡ fds
   fds_are =
       let f = fd_in 2 count (be 0 (take 2 bs)) (drop 2 bs) in
       let n = list_length f 0 (length fds) in
       ext_get_or 0 (list_of f 0 (length fds)) fds n
       (λ i z. let m : i < length fds = omega arith in
-      list_at f 0 (length fds) i m ∙ not_before (ltb (0 + i) (be 0 (take 2 bs))) (f (0 + i)) (get_or fds i 0) (small i) (k.each i m))
+      let b : ltb (0 + i) (be 0 (take 2 bs)) ≡ false = le-ltb (0 + i) (be 0 (take 2 bs)) (omega (arith, w.first)) in
+      list_at f 0 (length fds) i m ∙ rw b at (w.read.each i m))
 
   fds_back : count < 65536 → range_fds (length fds) (bytes_of 2 count ++ bs) ≡ Ok fds
   unfolding range_fds
   fds_back h =
       let l : List ℕ = bytes_of 2 count ++ bs in
-      let n : 4 ≤ length l = rw length-append (omega (arith, length-bytes 2 count, k.long)) in
+      let n : 4 ≤ length l = rw length-append (omega (arith, length-bytes 2 count, w.read.long)) in
       let f : be 0 (take 2 l) ≡ count = be-front 2 count bs h in
       let d : drop 2 l ≡ bs = drop-front 2 count bs in
       let e : drop 4 l ≡ drop 2 bs = sym (drop-drop 2 2 l) ∙ ap (drop 2) d in
-      simp (le-ltb (length l) 4 n, f, d, e, k.sound) (ap Ok fds_are)
+      simp (le-ltb (length l) 4 n, f, d, e, w.read.sound) (ap Ok fds_are)
 
-pub select-round : (b : List ℕ) (at : ℕ) (fds post : List ℕ) → drop at b ≡ fd_select_bytes fds ++ post → length fds < 65536 → Octets fds
+pub select-round : (b : List ℕ) (at : ℕ) (fds post : List ℕ) → drop at b ≡ fd_select_bytes fds ++ post → length fds < 65536
     → fd_select_at b at (length fds) ≡ Ok fds
 unfolding fd_select_at fd_select_bytes
-select-round b at fds post lies h small =
-    let e : 0 + length fds ≡ length fds = omega arith in
-    let k = rw e at (back 256 0 fds post (omega arith)) in
-    let m : length (fd_ranges fds) < 65536 = omega (arith, changes-few 256 0 fds) in
-    rw (lies, append_assoc, append_assoc) (fds_back fds small (length (fd_ranges fds)) (behind (fd_ranges fds) (length fds) post) k m)
+select-round b at fds post lies h =
+    let m : length (fd_ranges fds) < 65536 = omega (arith, changes-few None 0 fds) in
+    rw (lies, append_assoc, append_assoc) (fds_back fds (length (fd_ranges fds)) (behind (fd_ranges fds) (length fds) post) (whole fds post h) m)

@@ -223,6 +223,7 @@ fn fd_in_ranges(font: &[u8], at: usize, count: usize, first: usize, gid: usize) 
 {
     let mut low = 0;
     let mut high = count;
+    // No `partition_point`: the ranges stand as bytes, of which there is no slice of ends.
     while low < high {
         let mid = low + (high - low) / 2;
         let end = octets::u16_at(font, at + 3 * mid + 1);

@@ -1,4 +1,5 @@
 pub mod Bias
+pub mod BiasLaws
 pub mod Token
 pub mod Encode
 pub mod Examples

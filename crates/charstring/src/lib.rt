@@ -2,6 +2,7 @@
 // A body is read one token at a time, in place; a cursor by value holds what the Rust's loop holds.
 #![tactic(auto)]
 
+pub mod operand;
 pub mod place;
 
 ghost use Rattle.std.specs.Prelude.{◌≡◌, false, true, ◌+◌, ◌≤◌, ◌<◌, length, get_or};
@@ -65,19 +66,7 @@ pub fn is_mask(op: u8) -> bool
 fn is_stem(op: u8) -> bool
     ensures { result ≡ is_stem op }
 {
-    if op == 1 {
-        return true;
-    }
-    if op == 3 {
-        return true;
-    }
-    if op == 18 {
-        return true;
-    }
-    if op == 23 {
-        return true;
-    }
-    is_mask(op)
+    matches!(op, 1 | 3 | 18 | 23) || is_mask(op)
 }
 
 // The stems after an operator.
@@ -266,6 +255,8 @@ pub fn given_at(pairs: &[u32], c: Cursor) -> MaskLen
     MaskLen::Own
 }
 
+// How long a body is once it is written back, or None where the end cuts a token off.
+// (This and put_body stay two walks: over one sink, as in crate dict_write, writing too would have to answer for a token that is cut off, which it asks not to meet.)
 pub fn measure(code: &[u8], pairs: &[u32]) -> Option<usize>
     requires { length code.now ≤ 67108864 }
     ensures { result ≡ measured_of (tokens_of (lookup pairs.now) code.now) }

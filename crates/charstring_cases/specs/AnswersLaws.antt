@@ -1,5 +1,6 @@
 -- Laws of answers, by the code's ways out: the kinds of one number, and pairs.
-use Rattle.std.specs.Prelude.{ℕ, zero, suc, ◌+◌, ◌-◌, ◌*◌, ◌/◌, ◌≤◌, ◌<◌, ◌≡◌, refl, Bool, List, [], ◌∷◌, ◌++◌, leb, eqb, ℤ, length, take, drop, None, Some}
+use Rattle.std.specs.Prelude.{ℕ, zero, suc, ◌+◌, ◌-◌, ◌*◌, ◌/◌, ◌≤◌, ◌<◌, ◌≡◌, refl, Bool, true, false, List, [], ◌∷◌, ◌++◌, leb, eqb, ℤ, length, take, drop, None, Some}
+use Rattle.std.specs.Int.{from_bool}
 use Rattle.std.proofs.Common.{sym, ap, ◌∙◌, arith, length-append, length-drop, length-take-le, drop-drop, take_all}
 use Rattle.std.proofs.lemmas.List.{drop-take, take-take}
 use Rattle.std.proofs.Math.ListN.{get_or}
@@ -28,9 +29,13 @@ no h = omega arith
 
 -- ---- a number of a case
 
-pub count_is : (z : ℤ) (neg : Bool) (size sign : ℕ) → neg ≡ is_neg z → size ≡ mag z → sign ≡ pick neg 1 0 → sign ∷ bytes_of 4 size ≡ count_bytes z
+pub count_is : (z : ℤ) (neg : Bool) (size sign : ℕ) → neg ≡ is_neg z → size ≡ mag z → sign ≡ from_bool neg → sign ∷ bytes_of 4 size ≡ count_bytes z
 unfolding count_bytes
-count_is z neg size sign e f g = cc (ap {B = ℕ} (λ (t : Bool). pick t 1 0) e)
+count_is z neg size sign e f g = cc (g ∙ sign_byte neg, ap {B = ℕ} (λ (t : Bool). pick t 1 0) e)
+  where
+    sign_byte : (t : Bool) → from_bool t ≡ pick t 1 0
+    sign_byte true = refl
+    sign_byte false = refl
 
 pub count-length : (z : ℤ) → length (count_bytes z) ≡ 5
 unfolding count_bytes

@@ -10,7 +10,6 @@ ghost use Rattle.charstring_cases.specs.Streams.{token_bytes, tokens_bytes, reco
 ghost use Rattle.charstring_cases.specs.Answers.{answer_to};
 
 use cases::answer::Answer;
-use cases::sign_of;
 use charstring::{RecodeError, Token};
 use octets::out::Out;
 use type2_number::{Number, Operand};
@@ -21,7 +20,7 @@ fn put_count(v: Operand, to: &mut Answer)
     ensures { (to.new ≡ to.old ++ count_bytes v) × (length to.new ≡ length to.old + 5) }
 {
     let s = type2_number::count_of(v);
-    to.byte(sign_of(s.neg));
+    to.byte(u8::from(s.neg));
     to.num(s.size, 4);
 }
 
@@ -174,7 +173,7 @@ fn of_recoded(code: &[u8], pairs: &[u32]) -> Answer
     }
 }
 
-// Kind t or kind e.
+// Kind t or kind e. (Which of the two is a test of the letter; a closure in its place would want a clause of what it answers.)
 fn of_stream(tokens: bool, code: &[u8], pairs: &[u32]) -> Answer
     requires { length code.now ≤ 60 }
     ensures { result ≡ stream_bytes tokens (lookup pairs.now) code.now }
@@ -186,6 +185,7 @@ fn of_stream(tokens: bool, code: &[u8], pairs: &[u32]) -> Answer
 }
 
 // Writes the big-endian numbers of two bytes each to the start of pairs; returns how many they are.
+// sheet's put_pairs writes other numbers, u16, by another definition: one for both would be generic, and is no plainer.
 fn put_pairs(bytes: &[u8], pairs: &mut [u32]) -> usize
     requires { length bytes.now ≤ 2 * length pairs.old }
     ensures { Wrote pairs.old 0 (pairs_at bytes.now 0 (length bytes.now / 2)) pairs.new result }

@@ -1,13 +1,14 @@
 -- Laws of the table of FDs: each marked glyph's FD has its count, the others no limit; and the numbers of rows against it.
-use Rattle.std.specs.Prelude.{ℕ, zero, suc, ◌+◌, ◌-◌, ◌/◌, ◌≤◌, ◌<◌, ◌≡◌, Bool, ltb, set, replicate}
+use Rattle.std.specs.Prelude.{ℕ, ◌+◌, ◌-◌, ◌/◌, ◌≤◌, ◌<◌, ◌≡◌, Bool, ltb, set, replicate, None, Option, Some}
 use Rattle.std.proofs.Math.Path.{refl, ap}
-use Rattle.std.proofs.Common.{sym, ◌∙◌, subst, not-suc-le-zero, arith, lt-ltb, eqb-true, length-set, get_or-set_same, get_or-set_other}
+use Rattle.std.proofs.Common.{sym, ◌∙◌, subst, arith, eqb-true, length-set, get_or-set_same, get_or-set_other}
 use Rattle.std.proofs.Math.Bool.{true, false}
 use mathlib.Core.List.{List, [], ◌∷◌}
 use Rattle.std.proofs.lemmas.Bool.{eqb-false}
 use Rattle.std.proofs.Math.Dec.{eqb}
 use Rattle.std.proofs.Math.ListN.{length, get_or}
-use Rattle.std.proofs.lemmas.List.{length-replicate}
+use Rattle.std.proofs.lemmas.List.{length-replicate, get_or-replicate}
+use Rattle.std.specs.Option.{is_some}
 use Rattle.octets.specs.Pick.{pick}
 use Rattle.octets.specs.Octets.{Octets}
 use Rattle.index.specs.IndexLaws.{items-length}
@@ -31,28 +32,34 @@ use Rattle.faithful.specs.declared.read.Held.{Held}
 use Rattle.tracer.specs.declared.marked.Marked.{Marked}
 use Rattle.accepted.specs.Accepted.{each_row, number_is}
 use Rattle.accepted.proofs.Theorem.{fd-from}
-use Rattle.checker.specs.Checking.{number_fits, Unlimited, Known, Limited, limit_in, Limits}
+use Rattle.checker.specs.Checking.{below, number_fits, Unlimited, Known, Limited, limit_in, Limits}
 
 -- ---- one FD
 
-module _ (p : Program) (fd : ℕ) (limits : List ℕ) (k : Known p limits) (byte : fd < 256) where
+pub not_none : (o : Option ℕ) → is_some o ≡ true → o ≡ None → ⊥
+not_none o h e =
+    let z : ◌≡◌ {A = ℕ} 0 1 = ap (λ (t : Bool). pick t 1 0) (sym (ap is_some e) ∙ h) in
+    omega (arith, z)
+
+module _ (p : Program) (fd : ℕ) (limits : List (Option ℕ)) (k : Known p limits) (byte : fd < 256) where
   -- it has its count already
-  pub limit-known : (get_or limits fd 0 ≡ 65536 → ⊥) → Limited p fd limits limits
+  pub limit-known : (get_or limits fd None ≡ None → ⊥) → Limited p fd limits limits
   limit-known h = record { size = refl; at = λ f l. by f (eqb fd f) refl }
     where
-      by : (f : ℕ) (t : Bool) → eqb fd f ≡ t → get_or limits f 0 ≡ pick t (length (locals_of p f)) (get_or limits f 0)
-      by f true e = subst (λ (x : ℕ). get_or limits x 0 ≡ length (locals_of p x)) (eqb-true fd f e) (k.own fd byte h)
+      by : (f : ℕ) (t : Bool) → eqb fd f ≡ t → get_or limits f None ≡ pick t (Some (length (locals_of p f))) (get_or limits f None)
+      by f true e = subst (λ (x : ℕ). get_or limits x None ≡ Some (length (locals_of p x))) (eqb-true fd f e) (k.own fd byte h)
       by f false e = refl
 
-  pub limit-put : (n : ℕ) → n ≡ length (locals_of p fd) → Limited p fd limits (set limits fd n)
-  limit-put n is = record { size = length-set limits fd n; at = λ f l. by f (eqb fd f) refl }
+  pub limit-put : (n : ℕ) → n ≡ length (locals_of p fd) → Limited p fd limits (set limits fd (Some n))
+  limit-put n is = record { size = length-set limits fd (Some n); at = λ f l. by f (eqb fd f) refl }
     where
-      by : (f : ℕ) (t : Bool) → eqb fd f ≡ t → get_or (set limits fd n) f 0 ≡ pick t (length (locals_of p f)) (get_or limits f 0)
+      by : (f : ℕ) (t : Bool) → eqb fd f ≡ t → get_or (set limits fd (Some n)) f None ≡ pick t (Some (length (locals_of p f))) (get_or limits f None)
       by f true e =
-          subst (λ (x : ℕ). get_or (set limits fd n) x 0 ≡ length (locals_of p x)) (eqb-true fd f e) (get_or-set_same limits fd n 0 (omega (arith, k.size)) ∙ is)
-      by f false e = get_or-set_other limits fd f n 0 (λ z. eqb-false fd f e (sym z))
+          subst (λ (x : ℕ). get_or (set limits fd (Some n)) x None ≡ Some (length (locals_of p x))) (eqb-true fd f e)
+          (get_or-set_same limits fd (Some n) None (omega (arith, k.size)) ∙ ap Some is)
+      by f false e = get_or-set_other limits fd f (Some n) None (λ z. eqb-false fd f e (sym z))
 
-pub limited_as : (p : Program) (a c : ℕ) (old new : List ℕ) → a ≡ c → Limited p a old new → Limited p c old new
+pub limited_as : (p : Program) (a c : ℕ) (old new : List (Option ℕ)) → a ≡ c → Limited p a old new → Limited p c old new
 limited_as p a c old new e l = subst (λ (k : ℕ). Limited p k old new) e l
 
 -- how many local subroutines there are, by a Private DICT
@@ -79,28 +86,28 @@ module _ (m : Marked) where
   all_fds = fds_of p (marked_in m)
 
   -- where the loop stands: the counts of the glyphs before g are put, and with those that are left they are all
-  pub record Limiting (limits : List ℕ) (g : ℕ) : Type 0 where
+  pub record Limiting (limits : List (Option ℕ)) (g : ℕ) : Type 0 where
     pub within : g ≤ glyphs
     pub known : Known p limits
-    pub left : (x : ℕ) → x < 256 → pick (is_in x (left_from g)) (length (locals_of p x)) (get_or limits x 0) ≡ limit_in p all_fds x
+    pub left : (x : ℕ) → x < 256 → pick (is_in x (left_from g)) (Some (length (locals_of p x))) (get_or limits x None) ≡ limit_in p all_fds x
 
-  pub limits-start : (limits : List ℕ) → Unlimited limits → Limiting limits 0
+  pub limits-start : (limits : List (Option ℕ)) → Unlimited limits → Limiting limits 0
   limits-start limits u =
       record {
         within = omega arith;
         known = record { size = u.size; own = λ x h n. absurd (n (u.none x h)) };
         left = λ x h.
-            ap (λ (l : List ℕ). pick (is_in x (fds_of p l)) (length (locals_of p x)) (get_or limits x 0)) (those-whole (marked marks) glyphs)
-            ∙ ap (pick (is_in x all_fds) (length (locals_of p x))) (u.none x h);
+            ap (λ (l : List ℕ). pick (is_in x (fds_of p l)) (Some (length (locals_of p x))) (get_or limits x None)) (those-whole (marked marks) glyphs)
+            ∙ ap (pick (is_in x all_fds) (Some (length (locals_of p x)))) (u.none x h);
       }
 
-  module _ (limits : List ℕ) (g : ℕ) (s : Limiting limits g) where
+  module _ (limits : List (Option ℕ)) (g : ℕ) (s : Limiting limits g) where
     pub limits_done : glyphs ≤ g → Limits p all_fds limits
     unfolding fds_of is_in
     limits_done h =
         record {
           size = s.known.size;
-          at = λ x l. ap (λ (gs : List ℕ). pick (is_in x (fds_of p gs)) (length (locals_of p x)) (get_or limits x 0)) (sym (those_done (marked marks) glyphs g h)) ∙ s.left x l;
+          at = λ x l. ap (λ (gs : List ℕ). pick (is_in x (fds_of p gs)) (Some (length (locals_of p x))) (get_or limits x None)) (sym (those_done (marked marks) glyphs g h)) ∙ s.left x l;
         }
 
     module _ (h : g < glyphs) where
@@ -110,11 +117,11 @@ module _ (m : Marked) where
             within = omega arith;
             known = s.known;
             left = λ x l.
-                ap (λ (gs : List ℕ). pick (is_in x (fds_of p gs)) (length (locals_of p x)) (get_or limits x 0)) (sym (those-passed (marked marks) glyphs g h (mark_not marks g (omega (arith, e)))))
+                ap (λ (gs : List ℕ). pick (is_in x (fds_of p gs)) (Some (length (locals_of p x))) (get_or limits x None)) (sym (those-passed (marked marks) glyphs g h (mark_not marks g (omega (arith, e)))))
                 ∙ s.left x l;
           }
 
-      pub limits-put : (get_or marks g 0 ≡ 0 → ⊥) → (limits' : List ℕ) → Limited p (fd_for m.font g) limits limits' → Limiting limits' (g + 1)
+      pub limits-put : (get_or marks g 0 ≡ 0 → ⊥) → (limits' : List (Option ℕ)) → Limited p (fd_for m.font g) limits limits' → Limiting limits' (g + 1)
       unfolding fds_of is_in
       limits-put is limits' n =
           record {
@@ -123,32 +130,31 @@ module _ (m : Marked) where
             left = λ x l. turn x l;
           }
         where
-          own : (x : ℕ) → x < 256 → (get_or limits' x 0 ≡ 65536 → ⊥) → (t : Bool) → eqb (fd_for m.font g) x ≡ t → get_or limits' x 0 ≡ length (locals_of p x)
-          own x l o true e = n.at x l ∙ ap (λ (t : Bool). pick t (length (locals_of p x)) (get_or limits x 0)) e
+          own : (x : ℕ) → x < 256 → (get_or limits' x None ≡ None → ⊥) → (t : Bool) → eqb (fd_for m.font g) x ≡ t → get_or limits' x None ≡ Some (length (locals_of p x))
+          own x l o true e = n.at x l ∙ ap (λ (t : Bool). pick t (Some (length (locals_of p x))) (get_or limits x None)) e
           own x l o false e =
-              let same : get_or limits' x 0 ≡ get_or limits x 0 = n.at x l ∙ ap (λ (t : Bool). pick t (length (locals_of p x)) (get_or limits x 0)) e in
+              let same : get_or limits' x None ≡ get_or limits x None = n.at x l ∙ ap (λ (t : Bool). pick t (Some (length (locals_of p x))) (get_or limits x None)) e in
               same ∙ s.known.own x l (λ z. o (same ∙ z))
 
-          either : (t u : Bool) (a c : ℕ) → pick u a (pick t a c) ≡ pick (pick t true u) a c
+          either : (t u : Bool) (a c : Option ℕ) → pick u a (pick t a c) ≡ pick (pick t true u) a c
           either true true a c = refl
           either true false a c = refl
           either false u a c = refl
 
-          turn : (x : ℕ) → x < 256 → pick (is_in x (left_from (g + 1))) (length (locals_of p x)) (get_or limits' x 0) ≡ limit_in p all_fds x
+          turn : (x : ℕ) → x < 256 → pick (is_in x (left_from (g + 1))) (Some (length (locals_of p x))) (get_or limits' x None) ≡ limit_in p all_fds x
           turn x l =
-              ap (pick (is_in x (left_from (g + 1))) (length (locals_of p x))) (n.at x l)
-              ∙ either (eqb (fd_for m.font g) x) (is_in x (left_from (g + 1))) (length (locals_of p x)) (get_or limits x 0)
-              ∙ ap (λ (gs : List ℕ). pick (is_in x (fds_of p gs)) (length (locals_of p x)) (get_or limits x 0)) (sym (those-taken (marked marks) glyphs g h (mark_is marks g (omega (arith, is)))))
+              ap (pick (is_in x (left_from (g + 1))) (Some (length (locals_of p x)))) (n.at x l)
+              ∙ either (eqb (fd_for m.font g) x) (is_in x (left_from (g + 1))) (Some (length (locals_of p x))) (get_or limits x None)
+              ∙ ap (λ (gs : List ℕ). pick (is_in x (fds_of p gs)) (Some (length (locals_of p x))) (get_or limits x None)) (sym (those-taken (marked marks) glyphs g h (mark_is marks g (omega (arith, is)))))
               ∙ s.left x l
 
-filled_at : (n f : ℕ) → f < n → ◌≡◌ {A = ℕ} (get_or (replicate n 65536) f 0) 65536
-filled_at zero f h = absurd (not-suc-le-zero h)
-filled_at (suc n) zero h = refl
-filled_at (suc n) (suc f) h = filled_at n f (omega arith)
-
 -- the table before the first glyph
-pub no_limits : (limits : List ℕ) → limits ≡ replicate 256 65536 → Unlimited limits
-no_limits limits e = record { size = ap length e ∙ length-replicate {A = ℕ} 256 65536; none = λ f h. ap (λ (l : List ℕ). get_or l f 0) e ∙ filled_at 256 f h }
+pub no_limits : (limits : List (Option ℕ)) → limits ≡ replicate 256 None → Unlimited limits
+no_limits limits e =
+    record {
+      size = ap length e ∙ length-replicate {A = Option ℕ} 256 None;
+      none = λ f h. ap (λ (l : List (Option ℕ)). get_or l f None) e ∙ get_or-replicate {A = Option ℕ} 256 f None None h;
+    }
 
 -- ---- rows against the table
 
@@ -171,7 +177,7 @@ each_same s t [] a f = refl
 each_same s t (r ∷ rows) a f =
     ap (λ (x : Bool). pick x (each_row s rows) false) (f r a.0) ∙ ap (λ (x : Bool). pick (t r) x false) (each_same s t rows a.1 f)
 
-module _ (m : Marked) (limits : List ℕ) (l : Limits (program m.font.loaded) (all_fds m) limits) where
+module _ (m : Marked) (limits : List (Option ℕ)) (l : Limits (program m.font.loaded) (all_fds m) limits) where
   abbrev t : Held
   t = m.font
 
@@ -201,13 +207,13 @@ module _ (m : Marked) (limits : List ℕ) (l : Limits (program m.font.loaded) (a
       many : ℕ
       many = length (locals_of (program t.loaded) r.fd)
 
-      limited : (u : Bool) → ltb r.number (pick u many 65536) ≡ pick u (ltb r.number many) true
+      limited : (u : Bool) → below r.number (pick u (Some many) None) ≡ pick u (ltb r.number many) true
       limited true = refl
-      limited false = lt-ltb r.number 65536 fits.number
+      limited false = refl
 
-      of_local : ltb r.number (get_or limits r.fd 0) ≡ pick (is_in r.fd (used_fds (program t.loaded) some)) (ltb r.number many) true
+      of_local : below r.number (get_or limits r.fd None) ≡ pick (is_in r.fd (used_fds (program t.loaded) some)) (ltb r.number many) true
       of_local =
-          ap (ltb r.number) (l.at r.fd fits.fd) ∙ limited (is_in r.fd (fds_of (program t.loaded) some))
+          ap (below r.number) (l.at r.fd fits.fd) ∙ limited (is_in r.fd (fds_of (program t.loaded) some))
           ∙ ap (λ (u : Bool). pick u (ltb r.number many) true) (sym (used-same r.fd))
 
   pub numbers-same : (globals : ℕ) → globals ≡ t.loaded.f.globals.count → (rec : List ℕ) → Octets rec

@@ -68,10 +68,7 @@ fn accepts(font: &Held<'_>, keep: &[u16], rows: &[u8]) -> bool
         font: *font,
         marks: &marks,
     };
-    if numbers::numbers_are(&glyphs, rows) {
-        return lists_met(&glyphs, rows);
-    }
-    false
+    numbers::numbers_are(&glyphs, rows) && lists_met(&glyphs, rows)
 }
 
 // The answer for a font that was read in its file.

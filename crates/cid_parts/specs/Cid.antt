@@ -19,6 +19,7 @@ use Rattle.private_dicts.specs.Privates.{font_dicts_by, Placed}
 use Rattle.private_dicts.specs.declared.part.Part.{Part}
 use Rattle.fds.specs.Locals.{fds_in}
 use Rattle.own_strings.specs.declared.Own.{Own}
+use Rattle.own_strings.specs.declared.slots.Slot.{Slot}
 use Rattle.front.specs.Front.{SlotsReady, Measured, front_bytes}
 use Rattle.parts.specs.Ready.{bodies_for, Ready, Summed}
 use Rattle.record.specs.Record.{rows_of}
@@ -40,7 +41,7 @@ sized way bs room = pick (ltb 67108864 (length bs)) (refused Subset) (pick (ltb 
 -- ---- strings
 
 -- the own strings, which are few, and the slots that hold their ids
-pub record StringsReady (p : Program) (slots : List ℕ) (own : Own) : Type 0 where
+pub record StringsReady (p : Program) (slots : List Slot) (own : Own) : Type 0 where
   pub slotted : SlotsReady p true slots
   pub measured : Measured (own_by_cid p) own
   pub few : own.count ≤ 64609

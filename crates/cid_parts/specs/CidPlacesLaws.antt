@@ -1,6 +1,6 @@
 -- The parts of a CID-keyed subset measured (document 01, 'Layout'): what their measures ask, that the places are the subset's, and the outcome
 -- by its length.
-use Rattle.std.specs.Prelude.{ℕ, suc, ◌+◌, ◌*◌, ◌≤◌, ◌<◌, ◌≡◌, refl, Bool, true, false, ltb, replicate, Result, Err}
+use Rattle.std.specs.Prelude.{ℕ, suc, ◌+◌, ◌*◌, ◌≤◌, ◌<◌, ◌≡◌, refl, Bool, true, false, ltb, replicate, Result, Err, None}
 use Rattle.std.proofs.Math.Path.{sym, ap, subst}
 use Rattle.std.proofs.Common.{◌∙◌, arith, lt-ltb, le-ltb}
 use mathlib.Core.List.{List, [], ◌∷◌}
@@ -35,6 +35,7 @@ use Rattle.private_dicts.specs.Privates.{matrices_by}
 use Rattle.private_dicts.specs.declared.part.Part.{Part}
 use Rattle.bodies.specs.Ways.{kept_count}
 use Rattle.own_strings.specs.declared.Own.{Own}
+use Rattle.own_strings.specs.declared.slots.Slot.{Slot}
 use Rattle.front.specs.Front.{SmallFont, SlotsReady, Measured, front_len}
 use Rattle.front.specs.ByCidLaws.{cid_front-sum}
 use Rattle.front.specs.PrepareLaws.{has-strings, cid_own, slots-bound}
@@ -93,17 +94,17 @@ pub held_small : (b : List ℕ) (f : Font) → FontHeld b f → SmallFont b f
 held_small b f h = record { good = h.font; small = h.size }
 
 -- the own strings of a CID-keyed subset are at most those of the eight slots
-pub strings_ready : (b : List ℕ) (f : Font) → FontHeld b f → (slots : List ℕ) (own : Own) → Measured (own_by_cid (program_of b f)) own
+pub strings_ready : (b : List ℕ) (f : Font) → FontHeld b f → (slots : List Slot) (own : Own) → Measured (own_by_cid (program_of b f)) own
     → SlotsReady (program_of b f) true slots → StringsReady (program_of b f) slots own
 strings_ready b f held slots own m s =
-    let e = (slots-bound b f.strings (has-strings b f (held_small b f held)) slots s.given.room).0 in
+    let e = (slots-bound b f.strings (has-strings b f (held_small b f held)) slots s.given.eight).0 in
     record {
       slotted = s;
       measured = m;
       few = omega (arith, e, ap length (cid_own (program_of b f) slots s), ap (λ (o : Own). o.count) m.is);
     }
 
-pub own-few : (p : Program) (slots : List ℕ) (own : Own) → StringsReady p slots own → length (own_by_cid p) ≤ 64609
+pub own-few : (p : Program) (slots : List Slot) (own : Own) → StringsReady p slots own → length (own_by_cid p) ≤ 64609
 own-few p slots own s = omega (arith, s.few, ap (λ (o : Own). o.count) s.measured.is)
 
 -- a new table has a word for each FD
@@ -134,7 +135,7 @@ module _ (b : List ℕ) (rows : List Row) (used ws : List ℕ) (r : Planned) (ta
   select_short : length (fd_select_bytes (new_fds_by used (fds_of p order))) ≤ 200000
   select_short =
       let fds = new_fds_by used (fds_of p order) in
-      omega (arith, select-length fds, changes-few 256 0 fds, length-mapped (new_fd_by used) (fds_of p order), fds_many p order, c.ready.many, c.ready.few)
+      omega (arith, select-length fds, changes-few None 0 fds, length-mapped (new_fd_by used) (fds_of p order), fds_many p order, c.ready.many, c.ready.few)
 
   module _ (totals : List ℕ) (summed : Summed b rows used ws r table totals) where
     -- the length of the subset
@@ -146,7 +147,7 @@ module _ (b : List ℕ) (rows : List Row) (used ws : List ℕ) (r : Planned) (ta
 
     module _ {old parts : List Part} {all : ℕ} (s : SizesParts p r.how.way table totals used old parts all) {fds : List ℕ} (listed : fds ≡ fds_in used)
         (count : ℕ) (counted : count ≡ length (fds_in used)) where
-      module _ (name slots : List ℕ) (own : Own) (strings : StringsReady p slots own) (front globals select glyphs matrices : ℕ)
+      module _ (name : List ℕ) (slots : List Slot) (own : Own) (strings : StringsReady p slots own) (front globals select glyphs matrices : ℕ)
           (front_is : front ≡ front_len true 0 p.top slots (length name) own)
           (globals-is : globals ≡ index_len_lem (kept_count r.how.way r.how.globals.reached r.how.globals.count) r.globals_total)
           (select-is : select ≡ length (fd_select_bytes (new_fds_by used (fds_of p order)))) (glyphs-is : glyphs ≡ index_len_lem k r.glyphs_total)

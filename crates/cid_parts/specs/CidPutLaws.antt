@@ -30,6 +30,7 @@ use Rattle.fds.specs.Locals.{fds_in}
 use Rattle.fds.specs.NewLocals.{LocalsIn}
 use Rattle.fds.specs.NewParts.{parts_for, PartsRoom}
 use Rattle.own_strings.specs.declared.Own.{Own}
+use Rattle.own_strings.specs.declared.slots.Slot.{Slot}
 use Rattle.top_dict.specs.Top.{Offsets}
 use Rattle.front.specs.Front.{front_len as measured, front_bytes, CidFront}
 use Rattle.front.specs.ByCidLaws.{cid_front_len, cid_front-sum}
@@ -147,7 +148,7 @@ module _ (b : List ℕ) (rows : List Row) (used ws : List ℕ) (r : Planned) (ta
 
   -- ---- front, globals and charset
 
-  module _ (c : CidReady b rows used ws r table) (name slots : List ℕ) (own : Own) (strings : StringsReady p slots own) (short : length name ≤ 65535)
+  module _ (c : CidReady b rows used ws r table) (name : List ℕ) (slots : List Slot) (own : Own) (strings : StringsReady p slots own) (short : length name ≤ 65535)
       (at : CidPlaces) (is : at ≡ cid_places b rows used ws r name) (small : at.end ≤ 67108864) (out : List ℕ) (room : at.end ≤ length out) where
     -- the front by the places, which are the subset's
     abbrev front_at : CidPlaces → List ℕ

@@ -1,5 +1,5 @@
 -- Laws of the loops that fill the table: what is left to store gives, from what is stored, what all of it gives from the beginning.
-use Rattle.std.specs.Prelude.{ℕ, ◌+◌, ◌-◌, ◌*◌, ◌/◌, ◌%◌, ◌≤◌, ◌<◌, ◌≡◌, Bool, false, ltb, eqb, take, drop, get_or, None, Some, Ok}
+use Rattle.std.specs.Prelude.{ℕ, ◌+◌, ◌-◌, ◌*◌, ◌/◌, ◌%◌, ◌≤◌, ◌<◌, ◌≡◌, Bool, false, ltb, eqb, take, drop, get_or, None, Option, Some, Ok}
 use Rattle.std.proofs.Math.Path.{refl, sym, ap}
 use Rattle.std.proofs.Common.{◌∙◌, eq-eqb, ne_eqb, le-ltb, get_or-drop, drop-drop}
 use mathlib.Core.List.{List, [], ◌∷◌, ◌++◌}
@@ -19,17 +19,17 @@ use Rattle.codes.specs.FilledLaws.{filled-append, stored-length, number-next, co
 
 -- ---- codes
 
-pub record CodesLeft (b : List ℕ) (at count n : ℕ) (old table : List ℕ) (q glyph left : ℕ) : Type 0 where
+pub record CodesLeft (b : List ℕ) (at count n : ℕ) (old table : List (Option ℕ)) (q glyph left : ℕ) : Type 0 where
   pub size : length table ≡ length old
   pub within : q + left ≤ length b
   pub few : glyph + left ≤ 256
   pub is : (p : Program) → length p.charstrings ≡ n → filled p table (codes_from glyph (take left (drop q b))) ≡ filled p old (codes_from 1 (take count (drop at b)))
 
-pub codes-start : (b : List ℕ) (at count n : ℕ) (old : List ℕ) → at + count ≤ length b → count < 256 → CodesLeft b at count n old old at 1 count
+pub codes-start : (b : List ℕ) (at count n : ℕ) (old : List (Option ℕ)) → at + count ≤ length b → count < 256 → CodesLeft b at count n old old at 1 count
 codes-start b at count n old within few = record { size = refl; within = within; few = omega arith; is = λ p e. refl }
 
-module _ (b : List ℕ) (at count n : ℕ) (old table : List ℕ) (q glyph left : ℕ) (l : CodesLeft b at count n old table q glyph left) where
-  pub codes-turn : 0 < left → (code : ℕ) → code ≡ get_or b q 0 → (new : List ℕ) → new ≡ stored table code (pick (ltb glyph n) (Some glyph) None)
+module _ (b : List ℕ) (at count n : ℕ) (old table : List (Option ℕ)) (q glyph left : ℕ) (l : CodesLeft b at count n old table q glyph left) where
+  pub codes-turn : 0 < left → (code : ℕ) → code ≡ get_or b q 0 → (new : List (Option ℕ)) → new ≡ stored table code (pick (ltb glyph n) (Some glyph) None)
       → CodesLeft b at count n old new (q + 1) (glyph + 1) (left - 1)
   codes-turn some code c new e =
       record {
@@ -49,17 +49,17 @@ module _ (b : List ℕ) (at count n : ℕ) (old table : List ℕ) (q glyph left 
 
 -- ---- one range
 
-pub record RangeLeft (n first from count : ℕ) (old table : List ℕ) (code glyph left : ℕ) : Type 0 where
+pub record RangeLeft (n first from count : ℕ) (old table : List (Option ℕ)) (code glyph left : ℕ) : Type 0 where
   pub size : length table ≡ length old
   pub codes : code + left ≤ 512
   pub few : glyph + left ≤ 65792
   pub is : (p : Program) → length p.charstrings ≡ n → filled p table (range_from left code glyph) ≡ filled p old (range_from count first from)
 
-pub range-start : (n first from count : ℕ) (old : List ℕ) → first < 256 → from ≤ 65536 → count ≤ 256 → RangeLeft n first from count old old first from count
+pub range-start : (n first from count : ℕ) (old : List (Option ℕ)) → first < 256 → from ≤ 65536 → count ≤ 256 → RangeLeft n first from count old old first from count
 range-start n first from count old a b c = record { size = refl; codes = omega arith; few = omega arith; is = λ p e. refl }
 
-module _ (n first from count : ℕ) (old table : List ℕ) (code glyph left : ℕ) (l : RangeLeft n first from count old table code glyph left) where
-  pub range-turn : 0 < left → (new : List ℕ) → new ≡ stored table code (pick (ltb glyph n) (Some glyph) None)
+module _ (n first from count : ℕ) (old table : List (Option ℕ)) (code glyph left : ℕ) (l : RangeLeft n first from count old table code glyph left) where
+  pub range-turn : 0 < left → (new : List (Option ℕ)) → new ≡ stored table code (pick (ltb glyph n) (Some glyph) None)
       → RangeLeft n first from count old new (code + 1) (glyph + 1) (left - 1)
   range-turn some new e =
       record {
@@ -78,17 +78,17 @@ module _ (n first from count : ℕ) (old table : List ℕ) (code glyph left : �
 
 -- ---- all ranges
 
-pub record RangesLeft (b : List ℕ) (at count n : ℕ) (old table : List ℕ) (q glyph left : ℕ) : Type 0 where
+pub record RangesLeft (b : List ℕ) (at count n : ℕ) (old table : List (Option ℕ)) (q glyph left : ℕ) : Type 0 where
   pub size : length table ≡ length old
   pub within : q + left * 2 ≤ length b
   pub few : glyph + left * 256 ≤ 65281
   pub is : (p : Program) → length p.charstrings ≡ n → filled p table (ranges_from left glyph (drop q b)) ≡ filled p old (ranges_from count 1 (drop at b))
 
-pub ranges-start : (b : List ℕ) (at count n : ℕ) (old : List ℕ) → at + count * 2 ≤ length b → count < 256 → RangesLeft b at count n old old at 1 count
+pub ranges-start : (b : List ℕ) (at count n : ℕ) (old : List (Option ℕ)) → at + count * 2 ≤ length b → count < 256 → RangesLeft b at count n old old at 1 count
 ranges-start b at count n old within few = record { size = refl; within = within; few = omega arith; is = λ p e. refl }
 
-module _ (b : List ℕ) (at count n : ℕ) (old table : List ℕ) (q glyph left : ℕ) (l : RangesLeft b at count n old table q glyph left) where
-  pub ranges-turn : 0 < left → (first more : ℕ) → first ≡ get_or b q 0 → more ≡ get_or b (q + 1) 0 → more < 256 → (new : List ℕ)
+module _ (b : List ℕ) (at count n : ℕ) (old table : List (Option ℕ)) (q glyph left : ℕ) (l : RangesLeft b at count n old table q glyph left) where
+  pub ranges-turn : 0 < left → (first more : ℕ) → first ≡ get_or b q 0 → more ≡ get_or b (q + 1) 0 → more < 256 → (new : List (Option ℕ))
       → Fills n table (range_from (more + 1) first glyph) new → RangesLeft b at count n old new (q + 2) (glyph + (more + 1)) (left - 1)
   ranges-turn some first more a m low new f =
       let rest = ranges_from (left - 1) (glyph + (more + 1)) (drop (q + 2) b) in
@@ -96,7 +96,7 @@ module _ (b : List ℕ) (at count n : ℕ) (old table : List ℕ) (q glyph left 
         size = f.size ∙ l.size;
         within = omega (arith, l.within);
         few = omega (arith, l.few);
-        is = λ p h. ap (λ (t : List ℕ). filled p t rest) (f.is p h)
+        is = λ p h. ap (λ (t : List (Option ℕ)). filled p t rest) (f.is p h)
             ∙ sym (filled-append p table (range_from (more + 1) first glyph) rest)
             ∙ ap (λ (x : ℕ). filled p table (range_from (more + 1) x glyph ++ rest)) a
             ∙ ap (λ (x : ℕ). filled p table (range_from (x + 1) (get_or b q 0) glyph ++ ranges_from (left - 1) (glyph + (x + 1)) (drop (q + 2) b))) m
@@ -111,21 +111,21 @@ module _ (b : List ℕ) (at count n : ℕ) (old table : List ℕ) (q glyph left 
 
 -- ---- supplements
 
-pub record SuppliedLeft (p : Program) (b : List ℕ) (at count : ℕ) (old table : List ℕ) (q left : ℕ) : Type 0 where
+pub record SuppliedLeft (p : Program) (b : List ℕ) (at count : ℕ) (old table : List (Option ℕ)) (q left : ℕ) : Type 0 where
   pub size : length table ≡ length old
   pub within : q + left * 3 ≤ length b
   pub is : filled p table (supplied_from left (drop q b)) ≡ filled p old (supplied_from count (drop at b))
 
-pub supplied-start : (p : Program) (b : List ℕ) (at count : ℕ) (old : List ℕ) → at + count * 3 ≤ length b → SuppliedLeft p b at count old old at count
+pub supplied-start : (p : Program) (b : List ℕ) (at count : ℕ) (old : List (Option ℕ)) → at + count * 3 ≤ length b → SuppliedLeft p b at count old old at count
 supplied-start p b at count old within = record { size = refl; within = within; is = refl }
 
-module _ (p : Program) (b : List ℕ) (at count : ℕ) (old table : List ℕ) (q left : ℕ) (l : SuppliedLeft p b at count old table q left) where
-  pub supplied-turn : 0 < left → (code sid : ℕ) → code ≡ get_or b q 0 → sid ≡ num_at b (q + 1) 2 → (new : List ℕ) → new ≡ stored table code (string_glyph p sid)
+module _ (p : Program) (b : List ℕ) (at count : ℕ) (old table : List (Option ℕ)) (q left : ℕ) (l : SuppliedLeft p b at count old table q left) where
+  pub supplied-turn : 0 < left → (code sid : ℕ) → code ≡ get_or b q 0 → sid ≡ num_at b (q + 1) 2 → (new : List (Option ℕ)) → new ≡ stored table code (string_glyph p sid)
       → SuppliedLeft p b at count old new (q + 3) (left - 1)
   unfolding filled
   supplied-turn some code sid c s new e =
       let rest = supplied_from (left - 1) (drop (q + 3) b) in
-      let f : filled p new rest ≡ filled p table (by_string code sid ∷ rest) = ap (λ (t : List ℕ). filled p t rest) e in
+      let f : filled p new rest ≡ filled p table (by_string code sid ∷ rest) = ap (λ (t : List (Option ℕ)). filled p t rest) e in
       let g : filled p table (by_string code sid ∷ rest) ≡ filled p table (by_string (get_or b q 0) sid ∷ rest) = ap (λ (x : ℕ). filled p table (by_string x sid ∷ rest)) c in
       let h : filled p table (by_string (get_or b q 0) sid ∷ rest) ≡ filled p table (by_string (get_or b q 0) (num_at b (q + 1) 2) ∷ rest) =
       ap (λ (x : ℕ). filled p table (by_string (get_or b q 0) x ∷ rest)) s in
@@ -152,7 +152,7 @@ kind-ranges at count kind n e l h =
     let z = ap (λ (k : ℕ). count * (k + 1)) o in
     omega arith
 
-module _ {n : ℕ} {old new : List ℕ} (xs ys : List Naming) (kind : ℕ) where
+module _ {n : ℕ} {old new : List (Option ℕ)} (xs ys : List Naming) (kind : ℕ) where
   pub fills_codes : kind ≡ 0 → Fills n old xs new → Fills n old (pick (eqb kind 0) xs ys) new
   fills_codes e f = rw (eq-eqb kind 0 e) f
 
@@ -168,7 +168,7 @@ coded-good b f g h =
     encoding-good b f.encoding (sym (ap (λ (t : Bool). pick t (Ok tt) (encoding_at b f.encoding)) l) ∙ g.parts.coded)
 
 module _ (p : Program) (b : List ℕ) (at n format count : ℕ) (many : length p.charstrings ≡ n) (is-format : format ≡ get_or b at 0) (is-count : count ≡ get_or b (at + 1) 0)
-    (old mid : List ℕ)
+    (old mid : List (Option ℕ))
     (first : Fills n old (pick (eqb (format % 128) 0) (codes_from 1 (take count (drop (at + 2) b))) (ranges_from count 1 (drop (at + 2) b))) mid) where
   abbrev front : List Naming
   front = pick (eqb (format % 128) 0) (codes_from 1 (take count (drop (at + 2) b))) (ranges_from count 1 (drop (at + 2) b))
@@ -179,7 +179,7 @@ module _ (p : Program) (b : List ℕ) (at n format count : ℕ) (many : length p
   all_namings : filled p mid behind ≡ filled p old (namings_at b at)
   unfolding namings_at namings_by
   all_namings =
-      ap (λ (t : List ℕ). filled p t behind) (first.is p many) ∙ sym (filled-append p old front behind)
+      ap (λ (t : List (Option ℕ)). filled p t behind) (first.is p many) ∙ sym (filled-append p old front behind)
       ∙ ap (λ (x : ℕ). filled p old (namings_by x count (drop (at + 2) b))) is-format
       ∙ ap (λ (x : ℕ). filled p old (namings_by (get_or b at 0) x (drop (at + 2) b))) is-count
 
@@ -191,7 +191,7 @@ module _ (p : Program) (b : List ℕ) (at n format count : ℕ) (many : length p
       sym (ap (filled p mid) e) ∙ all_namings
 
   -- and with them
-  pub fill_supplied : (format / 128 ≡ 0 → ⊥) → (sups k : ℕ) → sups ≡ at + 2 + count * (format % 128 + 1) → k ≡ get_or b sups 0 → (new : List ℕ)
+  pub fill_supplied : (format / 128 ≡ 0 → ⊥) → (sups k : ℕ) → sups ≡ at + 2 + count * (format % 128 + 1) → k ≡ get_or b sups 0 → (new : List (Option ℕ))
       → new ≡ filled p mid (supplied_from k (drop (sups + 1) b)) → new ≡ filled p old (namings_at b at)
   fill_supplied h sups k s e new is =
       let m = count * (format % 128 + 1) in

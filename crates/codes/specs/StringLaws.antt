@@ -29,7 +29,7 @@ found_below strings name g (x ∷ ids) k e =
     e
 
 -- one that is found is in the font, so storing it by its number stores it
-pub string_stored : (b : List ℕ) (f : Font) → GoodFont b f → (sid g : ℕ) → Some g ≡ string_glyph (program_of b f) sid → (table : List ℕ) (code : ℕ)
+pub string_stored : (b : List ℕ) (f : Font) → GoodFont b f → (sid g : ℕ) → Some g ≡ string_glyph (program_of b f) sid → (table : List (Option ℕ)) (code : ℕ)
     → stored table code (pick (ltb g f.charstrings.count) (Some g) None) ≡ stored table code (string_glyph (program_of b f) sid)
 string_stored b f good sid g e table code =
     let p = program_of b f in

@@ -1,5 +1,5 @@
-// The glyphs of the codes of a custom encoding (TN5176, section 12; document 02, Wish 4), in a table of 256 places: 0 for a code without a glyph,
-// else the glyph's number + 1. Each naming is stored in its turn, so that the last glyph that a code names stands there in the end.
+// The glyphs of the codes of a custom encoding (TN5176, section 12; document 02, Wish 4), in a table of all codes. Each naming is stored in its turn, so
+// that the last glyph that a code names stands there in the end.
 #![tactic(auto)]
 
 ghost use Rattle.std.specs.Prelude.{◌≡◌, ◌+◌, ◌*◌, ◌≤◌, ◌<◌, ltb, eqb, length, take, drop, None, Some};
@@ -13,20 +13,20 @@ ghost use Rattle.codes.specs.Filled.{stored, filled, Fills};
 use cff::loaded::Loaded;
 
 // A code names a glyph by its number, of n glyphs: nothing where there is no such code or glyph.
-fn name_glyph(table: &mut [usize; 256], n: usize, code: usize, glyph: usize)
+fn name_glyph(table: &mut [Option<u16>; 256], n: u16, code: usize, glyph: usize)
     ensures { table.new ≡ stored table.old code (pick (ltb glyph n) (Some glyph) None) }
 {
-    if n <= glyph {
+    if usize::from(n) <= glyph {
         return;
     }
     if 256 <= code {
         return;
     }
-    table[code] = glyph + 1;
+    table[code] = Some(glyph as u16);
 }
 
 // Format 0: count codes, of the glyphs from 1 on.
-fn fill_codes(font: &[u8], at: usize, count: usize, n: usize, table: &mut [usize; 256])
+fn fill_codes(font: &[u8], at: usize, count: usize, n: u16, table: &mut [Option<u16>; 256])
     requires { (at + count ≤ length font.now) × (count < 256) }
     ensures { Fills n table.old (codes_from 1 (take count (drop at font.now))) table.new }
 {
@@ -36,7 +36,7 @@ fn fill_codes(font: &[u8], at: usize, count: usize, n: usize, table: &mut [usize
 }
 
 // A range of count codes from one on, of the glyphs from one on.
-fn fill_range(n: usize, first: usize, from: usize, count: usize, table: &mut [usize; 256])
+fn fill_range(n: u16, first: usize, from: usize, count: usize, table: &mut [Option<u16>; 256])
     requires { (first < 256) × (from ≤ 65536) × (count ≤ 256) }
     ensures { Fills n table.old (range_from count first from) table.new }
 {
@@ -46,7 +46,7 @@ fn fill_range(n: usize, first: usize, from: usize, count: usize, table: &mut [us
 }
 
 // Format 1: count ranges, of the glyphs from 1 on; a glyph at a code above 255 counts.
-fn fill_ranges(font: &[u8], at: usize, count: usize, n: usize, table: &mut [usize; 256])
+fn fill_ranges(font: &[u8], at: usize, count: usize, n: u16, table: &mut [Option<u16>; 256])
     requires { (at + count * 2 ≤ length font.now) × (count < 256) }
     ensures { Fills n table.old (ranges_from count 1 (drop at font.now)) table.new }
 {
@@ -60,7 +60,14 @@ fn fill_ranges(font: &[u8], at: usize, count: usize, n: usize, table: &mut [usiz
 }
 
 // The codes or ranges of a format. The kind, 0 or 1, is a number, for an entry has so many bytes and one more.
-fn fill_first(font: &[u8], at: usize, kind: usize, count: usize, n: usize, table: &mut [usize; 256])
+fn fill_first(
+    font: &[u8],
+    at: usize,
+    kind: usize,
+    count: usize,
+    n: u16,
+    table: &mut [Option<u16>; 256],
+)
     requires { (kind ≤ 1) × (at + count * (kind + 1) ≤ length font.now) × (count < 256) }
     ensures { Fills n table.old
         (pick (eqb kind 0) (codes_from 1 (take count (drop at font.now))) (ranges_from count 1 (drop at font.now)))
@@ -89,10 +96,10 @@ fn glyph_of_string(font: &Loaded<'_>, sid: usize) -> Option<usize>
 }
 
 // A code names the glyph of a string.
-fn name_string(font: &Loaded<'_>, code: usize, sid: usize, table: &mut [usize; 256])
+fn name_string(font: &Loaded<'_>, code: usize, sid: usize, table: &mut [Option<u16>; 256])
     ensures { table.new ≡ stored table.old code (string_glyph (program font.now) sid) }
 {
-    let n = font.f.charstrings.count;
+    let n = font.f.charstrings.count as u16;
     let found = glyph_of_string(font, sid);
     match found {
         None => {}
@@ -101,7 +108,7 @@ fn name_string(font: &Loaded<'_>, code: usize, sid: usize, table: &mut [usize; 2
 }
 
 // The supplements: count codes with a string id each.
-fn fill_supplements(font: &Loaded<'_>, at: usize, count: usize, table: &mut [usize; 256])
+fn fill_supplements(font: &Loaded<'_>, at: usize, count: usize, table: &mut [Option<u16>; 256])
     requires { at + count * 3 ≤ length font.now.bytes.now }
     ensures { table.new ≡ filled (program font.now) table.old (supplied_from count (drop at font.now.bytes.now)) }
 {
@@ -113,11 +120,11 @@ fn fill_supplements(font: &Loaded<'_>, at: usize, count: usize, table: &mut [usi
 }
 
 // All that the encoding of a font says, which has one of its own: the codes or ranges, and then the supplements.
-fn fill_all(font: &Loaded<'_>, table: &mut [usize; 256])
+fn fill_all(font: &Loaded<'_>, table: &mut [Option<u16>; 256])
     requires { (length font.now.bytes.now ≤ 67108864) × (2 ≤ font.now.f.encoding) }
     ensures { table.new ≡ filled (program font.now) table.old (namings_at font.now.bytes.now font.now.f.encoding) }
 {
-    let n = font.f.charstrings.count;
+    let n = font.f.charstrings.count as u16;
     let at = font.f.encoding;
     let format = octets::u8_at(font.bytes, at);
     let kind = format % 128;
@@ -131,7 +138,7 @@ fn fill_all(font: &Loaded<'_>, table: &mut [usize; 256])
 }
 
 // The same in the first 256 places of a table.
-pub fn fill(font: &Loaded<'_>, table: &mut [usize])
+pub fn fill(font: &Loaded<'_>, table: &mut [Option<u16>])
     requires { (length font.now.bytes.now ≤ 67108864) × (2 ≤ font.now.f.encoding) × (256 ≤ length table.old) }
     ensures { table.new ≡ filled (program font.now) table.old (namings_at font.now.bytes.now font.now.f.encoding) }
 {

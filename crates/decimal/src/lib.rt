@@ -57,7 +57,8 @@ struct Held {
     pub behind: usize,
 }
 
-// How far the text of a real was read.
+// How far the text of a real was read. A malformed text is a state and no error: where the bytes end before it does it is Truncated, whatever it says
+// (`text_of`), so that reading goes on; as an Option, each step would hand on a None that does not say what it means.
 #[derive(Clone, Copy)]
 enum Stage {
     Start,
@@ -386,14 +387,5 @@ pub fn offset_of(d: Decimal) -> Result<usize, Refusal>
 pub fn is_two(neg: bool, digits: usize, up: usize, down: usize) -> bool
     ensures { result ≡ is_two (record { neg = neg; digits = digits; up = up; down = down }) }
 {
-    if neg {
-        return false;
-    }
-    if digits != 2 {
-        return false;
-    }
-    if up != 0 {
-        return false;
-    }
-    down == 0
+    !neg && digits == 2 && up == 0 && down == 0
 }

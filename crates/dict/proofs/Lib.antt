@@ -1,4 +1,5 @@
 pub mod LookupLaws
 pub mod NotedLaws
 pub mod WalkLaws
+pub mod EntriesLaws
 pub mod ProperLaws

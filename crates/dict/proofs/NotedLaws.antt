@@ -90,29 +90,29 @@ module _ (t : Bool) (b : List ℕ) (at : ℕ) (last : List (Option OperandsAt)) 
   pub noting_placed : length b ≤ at → Placed b (Some (record { subsetting = t; last = last }))
   noting_placed h = record { notes = λ p e. subst (λ (q : Places). Notes q.subsetting b q.last) (same_Some _ _ e) (record { each = λ op l. finding_end b op at _ (w.each op l) h }) }
 
-  module _ (h : at < length b) (r : Result EntryAt Refusal) (e : r ≡ entry_told 0 (entry_at b at)) where
+  module _ (h : at < length b) (r : Result EntryAt Refusal) (e : r ≡ entry_told at 0 (entry_at b at)) where
     pub noting_refused : (n : Refusal) → r ≡ Err n → refusal_of (dict_of b) ≡ Some n
     noting_refused n f = sym (checking_refused b at w.checking h r e n f)
 
     module _ (entry : EntryAt) (f : r ≡ Ok entry) where
-      pub noting_turn : (s : ℕ) → s ≡ slot_of (asked t) entry.op → Noting t b entry.next (set last s (found_at at entry.count))
+      pub noting_turn : (s : ℕ) → s ≡ slot_of (asked t) entry.op → Noting t b entry.next (set last s (found_at entry.start entry.count))
       noting_turn s q =
           record {
             checking = checking_turn b at w.checking h r e entry f;
-            long = length-set last s (found_at at entry.count) ∙ w.long;
+            long = length-set last s (found_at entry.start entry.count) ∙ w.long;
             each = λ op l. go op l (eqb s (slot_of (asked t) op)) refl;
           }
         where
           go : (op : ℕ) → slot_of (asked t) op < length (asked t) → (u : Bool) → eqb s (slot_of (asked t) op) ≡ u
-              → Finding b op entry.next (get_or (set last s (found_at at entry.count)) (slot_of (asked t) op) None)
+              → Finding b op entry.next (get_or (set last s (found_at entry.start entry.count)) (slot_of (asked t) op) None)
           go op l true e' =
               let i : s ≡ slot_of (asked t) op = eqb-true s (slot_of (asked t) op) e' in
-              subst (λ (j : ℕ). Finding b op entry.next (get_or (set last s (found_at at entry.count)) j None)) i
-              (rw (get_or-set_same last s (found_at at entry.count) None (omega (arith, slot-few t entry.op s q, w.long)))
+              subst (λ (j : ℕ). Finding b op entry.next (get_or (set last s (found_at entry.start entry.count)) j None)) i
+              (rw (get_or-set_same last s (found_at entry.start entry.count) None (omega (arith, slot-few t entry.op s q, w.long)))
               (finding_here b op at _ (w.each op l) h r e entry f (slot_same (asked t) entry.op op (sym q ∙ i) l)))
           go op l false e' =
               let i : slot_of (asked t) op ≡ s → ⊥ = λ z. eqb-false s (slot_of (asked t) op) e' (sym z) in
-              rw (get_or-set_other last s (slot_of (asked t) op) (found_at at entry.count) None i)
+              rw (get_or-set_other last s (slot_of (asked t) op) (found_at entry.start entry.count) None i)
               (finding_on b op at _ (w.each op l) h r e entry f (λ z. i (sym (ap (slot_of (asked t)) z) ∙ sym q)))
 
 -- ---- what was noted is what is there

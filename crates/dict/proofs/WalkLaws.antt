@@ -40,27 +40,27 @@ operand_token (operator o m) next e = absurd (no cc)
 pub record Counting (b : List ℕ) (start at count : ℕ) : Type 0 where
   pub inside : at ≤ length b
   pub few : count ≤ at
-  pub rest : entry_told count (entry_at b at) ≡ entry_told 0 (entry_at b start)
+  pub rest : entry_told start count (entry_at b at) ≡ entry_told start 0 (entry_at b start)
 
-told-after : (n : ℕ) (d : Decimal) (r : Reading) → entry_told n (after d r) ≡ entry_told (n + 1) r
-told-after n d (stopped m) = refl
-told-after n d (got op ds end next) = let e : n + suc (length ds) ≡ n + 1 + length ds = omega arith in ap (λ (k : ℕ). entry_there op end k next) e
+told-after : (start n : ℕ) (d : Decimal) (r : Reading) → entry_told start n (after d r) ≡ entry_told start (n + 1) r
+told-after start n d (stopped m) = refl
+told-after start n d (got op ds end next) = let e : n + suc (length ds) ≡ n + 1 + length ds = omega arith in ap (λ (k : ℕ). entry_there start op end k next) e
 
 module _ (b : List ℕ) (start at count : ℕ) (w : Counting b start at count) where
-  pub counting-over : length b ≤ at → Err Malformed ≡ entry_told 0 (entry_at b start)
-  counting-over h = sym (ap (entry_told count) (entry-ends b at h)) ∙ w.rest
+  pub counting-over : length b ≤ at → Err Malformed ≡ entry_told start 0 (entry_at b start)
+  counting-over h = sym (ap (entry_told start count) (entry-ends b at h)) ∙ w.rest
 
   module _ (h : at < length b) (r : Result TokenAt Refusal) (e : r ≡ token_told (token_at b at)) where
-    turned : (t : Token) → token_at b at ≡ t → entry_told count (onward at t (entry_at b)) ≡ entry_told 0 (entry_at b start)
-    turned t f = ap (λ (x : Token). entry_told count (onward at x (entry_at b))) (sym f) ∙ sym (ap (entry_told count) (entry_is b at h)) ∙ w.rest
+    turned : (t : Token) → token_at b at ≡ t → entry_told start count (onward at t (entry_at b)) ≡ entry_told start 0 (entry_at b start)
+    turned t f = ap (λ (x : Token). entry_told start count (onward at x (entry_at b))) (sym f) ∙ sym (ap (entry_told start count) (entry_is b at h)) ∙ w.rest
 
-    pub counting_refused : (n : Refusal) → r ≡ Err n → Err n ≡ entry_told 0 (entry_at b start)
+    pub counting_refused : (n : Refusal) → r ≡ Err n → Err n ≡ entry_told start 0 (entry_at b start)
     counting_refused n f = turned (bad n) (refused_token (token_at b at) n (sym e ∙ f))
 
-    pub counting-operator : (op next : ℕ) → r ≡ Ok (Operator op next) → entry_there op at count next ≡ entry_told 0 (entry_at b start)
+    pub counting-operator : (op next : ℕ) → r ≡ Ok (Operator op next) → entry_there start op at count next ≡ entry_told start 0 (entry_at b start)
     counting-operator op next f =
         let k : count ≡ count + 0 = omega arith in
-        ap (λ (n : ℕ). entry_there op at n next) k ∙ turned (operator op next) (operator-token (token_at b at) op next (sym e ∙ f))
+        ap (λ (n : ℕ). entry_there start op at n next) k ∙ turned (operator op next) (operator-token (token_at b at) op next (sym e ∙ f))
 
     pub counting_further : (next : ℕ) → r ≡ Ok (Operand next) → (at < next) × (next ≤ length b)
     counting_further next f =
@@ -75,36 +75,37 @@ module _ (b : List ℕ) (start at count : ℕ) (w : Counting b start at count) w
         record {
           inside = p.1;
           few = omega (arith, p.0, w.few);
-          rest = sym (told-after count q.0 (entry_at b next)) ∙ turned (operand q.0 next) q.1;
+          rest = sym (told-after start count q.0 (entry_at b next)) ∙ turned (operand q.0 next) q.1;
         }
 
 -- ---- an entry's answer, taken apart
 
-stopped_entry : (x : Reading) (n : Refusal) → entry_told 0 x ≡ Err n → x ≡ stopped n
-stopped_entry (stopped m) n e = let k : m ≡ n = cc in ap stopped k
-stopped_entry (got op ds end next) n e = absurd (no cc)
+stopped_entry : (at : ℕ) (x : Reading) (n : Refusal) → entry_told at 0 x ≡ Err n → x ≡ stopped n
+stopped_entry at (stopped m) n e = let k : m ≡ n = cc in ap stopped k
+stopped_entry at (got op ds end next) n e = absurd (no cc)
 
 -- the operands behind an entry's answer
 pub record Answered (b : List ℕ) (at : ℕ) (t : EntryAt) : Type 0 where
   pub operands : List Decimal
+  pub starts : t.start ≡ at
   pub entry : entry_at b at ≡ got t.op operands t.end t.next
   pub counted : t.count ≡ length operands
   pub stands : Stands b at operands t.next
 
-answer-of : (b : List ℕ) (at : ℕ) (x : Reading) → entry_at b at ≡ x → Entered b at x → (t : EntryAt) → entry_told 0 x ≡ Ok t → Answered b at t
+answer-of : (b : List ℕ) (at : ℕ) (x : Reading) → entry_at b at ≡ x → Entered b at x → (t : EntryAt) → entry_told at 0 x ≡ Ok t → Answered b at t
 answer-of b at (stopped m) q s t e = absurd (no cc)
 answer-of b at (got op ds end next) q s t e =
-    let k : record { op = op; end = end; count = 0 + length ds; next = next } ≡ t = cc in
-    subst (Answered b at) k (record { operands = ds; entry = q; counted = omega arith; stands = s })
+    let k : record { start = at; op = op; end = end; count = 0 + length ds; next = next } ≡ t = cc in
+    subst (Answered b at) k (record { operands = ds; starts = refl; entry = q; counted = omega arith; stands = s })
 
-module _ (b : List ℕ) (at : ℕ) (h : at < length b) (r : Result EntryAt Refusal) (e : r ≡ entry_told 0 (entry_at b at)) where
+module _ (b : List ℕ) (at : ℕ) (h : at < length b) (r : Result EntryAt Refusal) (e : r ≡ entry_told at 0 (entry_at b at)) where
   pub answered : (t : EntryAt) → r ≡ Ok t → Answered b at t
   answered t f = answer-of b at (entry_at b at) refl (entered b at) t (sym e ∙ f)
 
   -- what is left after a refusal, and after an entry
   pub left_stopped : (n : Refusal) → r ≡ Err n → readings_at b at ≡ stopped n ∷ []
   left_stopped n f =
-      readings_are b at h ∙ ap (λ (x : Reading). followed x (readings_at b)) (stopped_entry (entry_at b at) n (sym e ∙ f))
+      readings_are b at h ∙ ap (λ (x : Reading). followed x (readings_at b)) (stopped_entry at (entry_at b at) n (sym e ∙ f))
 
   pub left-entry : (t : EntryAt) (a : Answered b at t) → readings_at b at ≡ got t.op a.operands t.end t.next ∷ readings_at b t.next
   left-entry t a = readings_are b at h ∙ ap (λ (x : Reading). followed x (readings_at b)) a.entry
@@ -128,7 +129,7 @@ module _ (b : List ℕ) (at : ℕ) (w : Checking b at) where
   unfolding gathered
   checking_end h = sym (ap (λ (l : List Reading). refusal_of (gathered l)) (readings_end b at h)) ∙ w.rest
 
-  module _ (h : at < length b) (r : Result EntryAt Refusal) (e : r ≡ entry_told 0 (entry_at b at)) where
+  module _ (h : at < length b) (r : Result EntryAt Refusal) (e : r ≡ entry_told at 0 (entry_at b at)) where
     pub checking_refused : (n : Refusal) → r ≡ Err n → Some n ≡ refusal_of (dict_of b)
     unfolding gathered
     checking_refused n f = sym (ap (λ (l : List Reading). refusal_of (gathered l)) (left_stopped b at h r e n f)) ∙ w.rest
@@ -156,7 +157,7 @@ module _ (b : List ℕ) (op at : ℕ) (found : Option OperandsAt) (w : Finding b
   unfolding last_place
   finding_end h = sym (ap (last_place op at found) (readings_end b at h)) ∙ w.rest
 
-  module _ (h : at < length b) (r : Result EntryAt Refusal) (e : r ≡ entry_told 0 (entry_at b at)) where
+  module _ (h : at < length b) (r : Result EntryAt Refusal) (e : r ≡ entry_told at 0 (entry_at b at)) where
     pub finding_stopped : (n : Refusal) → r ≡ Err n → found ≡ place_of op b
     unfolding last_place
     finding_stopped n f = sym (ap (last_place op at found) (left_stopped b at h r e n f)) ∙ w.rest
@@ -171,9 +172,10 @@ module _ (b : List ℕ) (op at : ℕ) (found : Option OperandsAt) (w : Finding b
               ∙ sym (ap (last_place op at found) (left-entry b at h r e t a)) ∙ w.rest;
         }
 
-    pub finding_here : (t : EntryAt) → r ≡ Ok t → t.op ≡ op → Finding b op t.next (found_at at t.count)
+    pub finding_here : (t : EntryAt) → r ≡ Ok t → t.op ≡ op → Finding b op t.next (found_at t.start t.count)
     finding_here t f q =
-        subst (λ (u : Bool). Finding b op t.next (pick u (found_at at t.count) found)) (eq-eqb t.op op q) (found_turn t f)
+        subst (λ (s : ℕ). Finding b op t.next (found_at s t.count)) (sym (answered b at h r e t f).starts)
+        (subst (λ (u : Bool). Finding b op t.next (pick u (found_at at t.count) found)) (eq-eqb t.op op q) (found_turn t f))
 
     pub finding_on : (t : EntryAt) → r ≡ Ok t → (t.op ≡ op → ⊥) → Finding b op t.next found
     finding_on t f q =

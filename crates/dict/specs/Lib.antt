@@ -9,3 +9,5 @@ pub mod EntryLaws
 pub mod Noted
 pub mod Alone
 pub mod Held
+pub mod Entries
+pub mod Ahead

@@ -16,14 +16,14 @@ token_told (bad n) = Err n
 token_told (operand d next) = Ok (Operand next)
 token_told (operator op next) = Ok (Operator op next)
 
--- an entry that was read: its operator, where that stands, how many operands are before it, and the position after it
-abbrev pub entry_there : ℕ → ℕ → ℕ → ℕ → Result EntryAt Refusal
-entry_there op end count next = Ok (record { op = op; end = end; count = count; next = next })
+-- an entry that was read: where it starts, its operator, where that stands, how many operands are before it, and the position after it
+abbrev pub entry_there : ℕ → ℕ → ℕ → ℕ → ℕ → Result EntryAt Refusal
+entry_there start op end count next = Ok (record { start = start; op = op; end = end; count = count; next = next })
 
--- the code's entry, n operands having been read before
-abbrev pub entry_told : ℕ → Reading → Result EntryAt Refusal
-entry_told n (stopped m) = Err m
-entry_told n (got op ds end next) = entry_there op end (n + length ds) next
+-- the code's entry from a start on, n operands having been read before
+abbrev pub entry_told : ℕ → ℕ → Reading → Result EntryAt Refusal
+entry_told start n (stopped m) = Err m
+entry_told start n (got op ds end next) = entry_there start op end (n + length ds) next
 
 -- the refusal of a DICT, if it is refused
 abbrev pub refusal_of : Result (List Entry) Refusal → Option Refusal

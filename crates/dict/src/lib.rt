@@ -2,6 +2,7 @@
 // entries written (dict_op and DictWriter in write.rs).
 #![tactic(auto)]
 
+pub mod entries;
 pub mod op;
 pub mod placed;
 
@@ -12,6 +13,7 @@ ghost use Rattle.dict.specs.Lookup.{operands, private_as, ros_as};
 ghost use Rattle.dict.specs.Places.{token_told, entry_told, refusal_of, place_of, operands_at};
 ghost use Rattle.dict.specs.Held.{ReadsDict};
 
+use crate::entries::Entries;
 use crate::op::{Op, slot};
 use crate::placed::Dict;
 use decimal::{Decimal, Signed, number_at, past_number, to_i32, to_u16, trunc};
@@ -24,9 +26,10 @@ pub enum TokenAt {
     Operator { op: usize, next: usize },
 }
 
-// The entry at a position: its operator, where that stands, how many operands are before it, and the position after it.
+// The entry at a position: where it starts, its operator, where that stands, how many operands are before it, and the position after it.
 #[derive(Clone, Copy)]
 pub struct EntryAt {
+    pub start: usize,
     pub op: usize,
     pub end: usize,
     pub count: usize,
@@ -110,7 +113,7 @@ fn token_at(d: &[u8], at: usize) -> Result<TokenAt, Refusal>
 // The entry at a position.
 pub fn read_entry(d: &[u8], start: usize) -> Result<EntryAt, Refusal>
     requires { start < length d.now }
-    ensures { result ≡ entry_told 0 (entry_at d.now start) }
+    ensures { result ≡ entry_told start 0 (entry_at d.now start) }
 {
     let mut at = start;
     let mut count: usize = 0;
@@ -122,6 +125,7 @@ pub fn read_entry(d: &[u8], start: usize) -> Result<EntryAt, Refusal>
             }
             TokenAt::Operator { op, next } => {
                 return Ok(EntryAt {
+                    start,
                     op,
                     end: at,
                     count,
@@ -141,6 +145,7 @@ pub fn read_dict(d: &[u8]) -> Result<Dict<'_>, Refusal>
 }
 
 // A top DICT read in one pass, with the places of the entries that subsetting asks for, and its refusal, if it is refused: nothing is noted of it then.
+// (The cuts ask for no refusal, since reading a font has passed by then; the pair says that none is lost.)
 pub fn read_top(d: &[u8]) -> (Dict<'_>, Option<Refusal>)
     ensures { (result.0.bytes.now ≡ d.now) × (result.1 ≡ refusal_of (dict_of d.now)) }
 {
@@ -155,15 +160,13 @@ fn note_entries(d: &[u8], subsetting: bool) -> Result<Dict<'_>, Refusal>
     ensures { ReadsDict d.now result }
 {
     let mut last = [None; 16];
-    let mut at: usize = 0;
-    while at < d.len() {
-        let entry = read_entry(d, at)?;
+    for entry in Entries::new(d) {
+        let entry = entry?;
         let j = slot(subsetting, entry.op);
         last[j] = Some(OperandsAt {
-            start: at,
+            start: entry.start,
             count: entry.count,
         });
-        at = entry.next;
     }
     Ok(Dict {
         bytes: d,
@@ -176,21 +179,17 @@ fn find_entry(d: &[u8], op: usize) -> Option<OperandsAt>
     ensures { result ≡ place_of op d.now }
 {
     let mut found = None;
-    let mut at: usize = 0;
-    while at < d.len() {
-        match read_entry(d, at) {
+    for entry in Entries::new(d) {
+        match entry {
             Ok(entry) => {
                 if entry.op == op {
                     found = Some(OperandsAt {
-                        start: at,
+                        start: entry.start,
                         count: entry.count,
                     });
                 }
-                at = entry.next;
             }
-            Err(_) => {
-                return found;
-            }
+            Err(_) => return found,
         }
     }
     found

@@ -137,7 +137,8 @@ fn subset_slot(op: usize) -> usize
     }
 }
 
-// The slot of an operator in the table of subsetting, or in that of reading.
+// The slot of an operator in the table of subsetting, or in that of reading. The flag is chosen in `read_dict` and `read_top` alone: an enum of both tables
+// would say what those names say.
 pub fn slot(subsetting: bool, op: usize) -> usize
     ensures { result ≡ slot_of (asked subsetting) op }
 {

@@ -39,7 +39,7 @@ pub copied_end : (b : List ℕ) (at : ℕ) → length b ≤ at → copied_from b
 unfolding listed without
 copied_end b at h = ap (λ (l : List Reading). without subrs (listed l)) (readings_end b at h)
 
-module _ (b : List ℕ) (at : ℕ) (h : at < length b) (r : Result EntryAt Refusal) (e : r ≡ entry_told 0 (entry_at b at)) where
+module _ (b : List ℕ) (at : ℕ) (h : at < length b) (r : Result EntryAt Refusal) (e : r ≡ entry_told at 0 (entry_at b at)) where
   pub copied_stopped : (n : Refusal) → r ≡ Err n → copied_from b at ≡ []
   unfolding listed without
   copied_stopped n f = ap (λ (l : List Reading). without subrs (listed l)) (left_stopped b at h r e n f)
@@ -49,10 +49,10 @@ module _ (b : List ℕ) (at : ℕ) (h : at < length b) (r : Result EntryAt Refus
     pub entry-placed : Answered b at t
     entry-placed = answered b at h r e t f
 
-    entry-bytes : entry_bytes t.op (operands_at t.count b at) ≡ entry_bytes t.op entry-placed.operands
-    entry-bytes = ap (entry_bytes t.op) (ap (λ (n : ℕ). operands_at n b at) entry-placed.counted ∙ entry-placed.stands.here)
+    entry-bytes : entry_bytes t.op (operands_at t.count b t.start) ≡ entry_bytes t.op entry-placed.operands
+    entry-bytes = ap (entry_bytes t.op) (ap (operands_at t.count b) entry-placed.starts ∙ ap (λ (n : ℕ). operands_at n b at) entry-placed.counted ∙ entry-placed.stands.here)
 
-    pub one-placed : entries_bytes (record { op = t.op; operands = entry-placed.operands } ∷ []) ≡ entry_bytes t.op (operands_at t.count b at)
+    pub one-placed : entries_bytes (record { op = t.op; operands = entry-placed.operands } ∷ []) ≡ entry_bytes t.op (operands_at t.count b t.start)
     one-placed = one_entry t.op entry-placed.operands ∙ sym entry-bytes
 
     first : listed (readings_at b at) ≡ record { op = t.op; operands = entry-placed.operands } ∷ listed (readings_at b t.next)

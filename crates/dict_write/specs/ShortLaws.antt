@@ -1,7 +1,7 @@
 -- What is written is not much longer than what was read, so that lengths can be added up.
 use Prim.Native.Nat.{ℕ, zero, suc, ◌+◌, ◌-◌, ◌*◌, ◌≤◌, ◌<◌}
-use Rattle.std.specs.Prelude.{◌≡◌, Bool, true, false, ltb, leb, eqb}
-use Rattle.std.proofs.Math.Path.{refl}
+use Rattle.std.specs.Prelude.{◌≡◌, Bool, true, false, ltb, leb, eqb, Option, Some, None}
+use Rattle.std.proofs.Math.Path.{refl, ap}
 use mathlib.Core.List.{List, ◌∷◌, ◌++◌}
 use native.Mathlib.Omega.{arith}
 use Rattle.std.proofs.Math.ListN.{length, length-append}
@@ -18,11 +18,14 @@ use Rattle.decimal.specs.Written.{int_bytes, real_bytes, as_integer, number_byte
 use Rattle.decimal_write.specs.IntLaws.{length_int5}
 use Rattle.decimal_write.specs.TextLaws.{packed-small}
 use Rattle.dict.specs.Dict.{Entry, Token, bad, operand, operator, token_at, Reading, stopped, got, after, onward, entry_from, entry_at, followed, readings_from, readings_at}
-use Rattle.dict.specs.Places.{listed, entries_of, or_none, operands_at}
+use Rattle.dict.specs.Lookup.{last_of}
+use Rattle.dict.specs.Places.{listed, entries_of, or_none, place_of, operands_at}
+use Rattle.dict.specs.declared.OperandsAt.{OperandsAt}
 use Rattle.dict.specs.TokenLaws.{Passes, token-passes}
 use Rattle.dict.specs.EntryLaws.{Entered, entered, from-entered}
 use Rattle.dict.proofs.LookupLaws.{number_out}
-use Rattle.dict_write.specs.Written.{op_bytes_lem, operands_bytes, entry_bytes, entries_bytes, without, private_bytes}
+use Rattle.dict_write.specs.Written.{op_bytes_lem, operands_bytes, entry_bytes, copied_entry, entries_bytes, without, private_bytes}
+use Rattle.dict_write.specs.WriteLaws.{copied-absent, copied-found}
 
 no : ◌≡◌ {A = ℕ} 0 1 → ⊥
 no h = omega arith
@@ -68,6 +71,14 @@ module _ (b : List ℕ) (o : Octets b) where
   pub entry-short : (op n at : ℕ) → length (entry_bytes op (operands_at n b at)) ≤ 101 * length b + 2
   unfolding entry_bytes
   entry-short op n at = rw length-append (omega (arith, operands_short n at, op_short op))
+
+  -- the last entry of an operator
+  pub copied-short : (op : ℕ) → length (copied_entry op (last_of op (entries_of b))) ≤ 101 * length b + 2
+  copied-short op = go (place_of op b) refl
+    where
+      go : (r : Option OperandsAt) → r ≡ place_of op b → length (copied_entry op (last_of op (entries_of b))) ≤ 101 * length b + 2
+      go None e = omega (arith, ap length (copied-absent b op None e refl))
+      go (Some q) e = omega (arith, ap length (copied-found b op (Some q) e q.start q.count refl), entry-short op q.count q.start)
 
   -- ---- entries: at most 103 bytes for each byte read
 

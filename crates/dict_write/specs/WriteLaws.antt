@@ -84,7 +84,3 @@ module _ (b : List ℕ) (op : ℕ) (r : Option OperandsAt) (e : r ≡ place_of o
   copied-found start count f =
       let l = found-last b op r e start count f in
       ap (entry_bytes op) (ap (λ (n : ℕ). operands_at n b start) l.held.counted ∙ l.held.here) ∙ sym (ap (copied_entry op) l.last)
-
-  pub copied-room : (start count : ℕ) → r ≡ found_at start count → (size to : ℕ) → to + length (copied_entry op (last_of op (entries_of b))) ≤ size
-      → to + length (entry_bytes op (operands_at count b start)) ≤ size
-  copied-room start count f size to h = let k = ap length (copied-found start count f) in omega arith

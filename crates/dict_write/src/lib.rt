@@ -2,7 +2,7 @@
 // operands stand. A walk over what is copied is one function: its sink counts or writes.
 #![tactic(auto)]
 
-mod sink;
+pub mod sink;
 
 ghost use Rattle.std.specs.Prelude.{◌≡◌, true, ◌+◌, ◌≤◌, ◌<◌, length};
 ghost use Rattle.octets.specs.Out.{Writes};
@@ -15,9 +15,10 @@ ghost use Rattle.dict_write.specs.Written.{op_bytes_lem, operands_bytes, entry_b
 use crate::sink::{Count, Sink};
 use decimal::number_at;
 use decimal_write::put_int5;
+use dict::OperandsAt;
+use dict::entries::Entries;
 use dict::op::Op;
 use dict::placed::Dict;
-use dict::{OperandsAt, read_entry};
 use octets::out::Out;
 
 // How many bytes an operator takes: one, or two for an escape.
@@ -102,14 +103,22 @@ pub fn copied_len(d: &Dict<'_>, op: usize) -> usize
 }
 
 // The last entry of an operator, where there is one.
+pub fn copied<S: Sink>(d: &Dict<'_>, op: usize, to: &mut S)
+    requires { S.allows op × S.room to.old (copied_entry op (last_of op (entries d.now))) }
+    ensures { S.takes to.old (copied_entry op (last_of op (entries d.now))) to.new }
+{
+    match d.place(op) {
+        None => {}
+        Some(OperandsAt { start, count }) => entry(d.bytes, start, count, op, to),
+    }
+}
+
+// That entry, written.
 pub fn put_copied(d: &Dict<'_>, op: usize, out: &mut Out<'_>)
     requires { (is_operator op ≡ true) × (out.old.at + length (copied_entry op (last_of op (entries d.now))) ≤ length out.old.bytes.now) }
     ensures { Writes out.old (copied_entry op (last_of op (entries d.now))) out.new }
 {
-    match d.place(op) {
-        None => {}
-        Some(OperandsAt { start, count }) => put_entry(d.bytes, start, count, op, out),
-    }
+    copied(d, op, out);
 }
 
 // An offset in the five-byte form and its operator.
@@ -135,18 +144,14 @@ fn private<S: Sink>(d: &[u8], to: &mut S)
     requires { S.room to.old (private_bytes (entries_of d.now)) }
     ensures { S.takes to.old (private_bytes (entries_of d.now)) to.new }
 {
-    let mut at: usize = 0;
-    while at < d.len() {
-        match read_entry(d, at) {
+    for read in Entries::new(d) {
+        match read {
             Ok(read) => {
                 if read.op != Op::SUBRS {
-                    entry(d, at, read.count, read.op, &mut *to);
+                    entry(d, read.start, read.count, read.op, &mut *to);
                 }
-                at = read.next;
             }
-            Err(_) => {
-                return;
-            }
+            Err(_) => return,
         }
     }
 }

@@ -18,43 +18,28 @@ use refusal::Refusal;
 fn has_ros(d: &Dict<'_>) -> bool
     ensures { result ≡ has_ros_lem (ros_in (entries d.now)) }
 {
-    match d.ros() {
-        None => false,
-        Some(_) => true,
-    }
+    d.ros().is_some()
 }
 
 // Whether a font is stroked, or has an Expert encoding, offset 1, that is not asked for.
 fn is_unsupported(ask: bool, encoding: usize, d: &Dict<'_>) -> bool
     ensures { result ≡ unsupported_at ask encoding (entries d.now) }
 {
-    if d.is_stroked() {
-        return true;
-    }
-    if ask {
-        return false;
-    }
-    encoding == 1
+    d.is_stroked() || !ask && encoding == 1
 }
 
 // Whether a font has the keying that is asked for and is supported.
 fn is_fit(cid: bool, ask: bool, keyed: bool, encoding: usize, d: &Dict<'_>) -> bool
     ensures { result ≡ pick (same_bool_lem cid keyed) (not (unsupported_at ask encoding (entries d.now))) false }
 {
-    if cid == keyed {
-        return !is_unsupported(ask, encoding, d);
-    }
-    false
+    cid == keyed && !is_unsupported(ask, encoding, d)
 }
 
 // Whether the ROS of a top DICT can be used where a CID-keyed font is asked for.
 fn ros_fine(cid: bool, d: &Dict<'_>) -> bool
     ensures { result ≡ pick cid (has_ros_lem (ros_in (entries d.now))) true }
 {
-    if cid {
-        return has_ros(d);
-    }
-    true
+    !cid || has_ros(d)
 }
 
 // How many work words the small call asks for (document 02, Wish 10), or the other.
@@ -70,7 +55,8 @@ pub fn size_of(small: bool, font: &Loaded<'_>) -> usize
     cff::font::work_size(f)
 }
 
-// The refusal of a font that was read, before the work words are used. The flag, traced, is any byte: refusal 8 judges it.
+// The refusal of a font that was read, before the work words are used. The flag, traced, is any byte: refusal 8 judges it. (It takes a call's parts one by
+// one: early_traced asks it of a name's length and of no record.)
 pub fn refusal(
     small: bool,
     cid: bool,

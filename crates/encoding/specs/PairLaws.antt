@@ -1,8 +1,8 @@
 -- Laws of the pairs of a table: how many they are and how many bytes they have, and that they are those of the definition.
 use Prim.Native.Nat.{ℕ, zero, suc, ◌+◌, ◌*◌, ◌-◌, ◌≤◌, ◌<◌}
-use Rattle.std.specs.Prelude.{◌≡◌, Bool, true, false, eqb, length, None, Option, Some}
+use Rattle.std.specs.Prelude.{◌≡◌, Bool, true, false, length, None, Option, Some}
 use Rattle.std.proofs.Math.Path.{refl, ap}
-use Rattle.std.proofs.Common.{sym, ◌∙◌, arith, ne_eqb, length-append}
+use Rattle.std.proofs.Common.{sym, ◌∙◌, arith, length-append}
 use mathlib.Core.List.{List, [], ◌∷◌, ◌++◌, append_assoc}
 use Rattle.std.proofs.Math.ListN.{get_or}
 use Rattle.octets.specs.Pick.{pick}
@@ -13,7 +13,6 @@ use Rattle.cff.specs.Font.{Program}
 use Rattle.subset.specs.Kept.{is_in}
 use Rattle.subset.specs.Texts.{name_of, new_id}
 use Rattle.subset.specs.Codes.{Pair, last_named, pair_of, pairs_from, pair_bytes}
-use Rattle.codes.specs.Filled.{held_of}
 use Rattle.encoding.specs.Encoded.{pair_in, pairs_in, held_after, Renames}
 use Rattle.encoding.specs.IdLaws.{after_none, after_kept}
 
@@ -33,65 +32,32 @@ pair-bytes-append (q ∷ ps) qs =
 
 -- ---- code by code
 
-pub pairs-more : (table : List ℕ) (c : ℕ) → c < 256 → pairs_in table (256 - c) c ≡ pair_in c (get_or table c 0) ++ pairs_in table (256 - (c + 1)) (c + 1)
+pub pairs-more : (table : List (Option ℕ)) (c : ℕ) → c < 256 → pairs_in table (256 - c) c ≡ pair_in c (get_or table c None) ++ pairs_in table (256 - (c + 1)) (c + 1)
 unfolding pairs_in
 pairs-more table c h = let e : 256 - c ≡ suc (256 - (c + 1)) = omega arith in ap (λ (m : ℕ). pairs_in table m c) e
 
-pub pairs-none : (table : List ℕ) (c : ℕ) → 256 ≤ c → pairs_in table (256 - c) c ≡ []
+pub pairs-none : (table : List (Option ℕ)) (c : ℕ) → 256 ≤ c → pairs_in table (256 - c) c ≡ []
 unfolding pairs_in
 pairs-none table c h = let e : 256 - c ≡ 0 = omega arith in ap (λ (m : ℕ). pairs_in table m c) e
-
-one-length : (c held : ℕ) (t : Bool) → length {A = Pair} (pick t [] (record { code = c; id = held - 1 } ∷ [])) ≡ pick t 0 1
-one-length c held true = refl
-one-length c held false = refl
-
-pub record Counting (table : List ℕ) (pairs c : ℕ) : Type 0 where
-  pub within : c ≤ 256
-  pub few : pairs ≤ c
-  pub is : pairs + length (pairs_in table (256 - c) c) ≡ length (pairs_in table 256 0)
-
-pub counting-start : (table : List ℕ) → Counting table 0 0
-counting-start table = record { within = omega arith; few = omega arith; is = omega arith }
-
-one-few : (t : Bool) → pick t 0 1 ≤ 1
-one-few true = omega arith
-one-few false = omega arith
-
-module _ (table : List ℕ) (pairs c : ℕ) (l : Counting table pairs c) where
-  pub counting-next : c < 256 → (held r : ℕ) → held ≡ get_or table c 0 → r ≡ pick (eqb held 0) 0 1 → Counting table (pairs + r) (c + 1)
-  counting-next h held r e f =
-      let m : length (pairs_in table (256 - c) c) ≡ length (pair_in c (get_or table c 0)) + length (pairs_in table (256 - (c + 1)) (c + 1)) =
-      ap length (pairs-more table c h) ∙ length-append (pair_in c (get_or table c 0)) (pairs_in table (256 - (c + 1)) (c + 1)) in
-      let o : r ≡ length (pair_in c (get_or table c 0)) = f ∙ sym (one-length c held (eqb held 0)) ∙ ap (λ (x : ℕ). length (pair_in c x)) e in
-      let q : r ≤ 1 = omega (arith, f, one-few (eqb held 0)) in
-      record { within = omega arith; few = omega (arith, l.few); is = omega (arith, l.is) }
-
-  pub counting_done : 256 ≤ c → (pairs ≡ length (pairs_in table 256 0)) × (pairs ≤ 256)
-  counting_done h =
-      let z : length (pairs_in table (256 - c) c) ≡ 0 = ap length (pairs-none table c h) in
-      (omega (arith, l.is), omega (arith, l.few, l.within))
 
 -- ---- the pairs of the definition
 
 module _ (p : Program) (own : List (List ℕ)) (gs : List ℕ) where
-  kept_pair : (c g : ℕ) (t : Bool) → pair_in c (pick t (new_id own (name_of p g) + 1) 0) ≡ pick t (record { code = c; id = new_id own (name_of p g) } ∷ []) []
-  kept_pair c g true =
-      let t : eqb (new_id own (name_of p g) + 1) 0 ≡ false = ne_eqb (new_id own (name_of p g) + 1) 0 (λ e. omega arith) in
-      let e : new_id own (name_of p g) + 1 - 1 ≡ new_id own (name_of p g) = omega arith in
-      rw (t, e) refl
+  kept_pair : (c g : ℕ) (t : Bool) → pair_in c (pick t (Some (new_id own (name_of p g))) None) ≡ pick t (record { code = c; id = new_id own (name_of p g) } ∷ []) []
+  kept_pair c g true = refl
   kept_pair c g false = refl
 
-  found-pair : (c : ℕ) (f : Option ℕ) → pair_in c (held_after p own gs (held_of f) 0) ≡ pair_of p gs own c f
-  found-pair c None = ap (pair_in c) (after_none p own gs 0)
-  found-pair c (Some g) = ap (pair_in c) (after_kept p own gs g 0) ∙ kept_pair c g (is_in g gs)
+  found-pair : (c : ℕ) (f : Option ℕ) → pair_in c (held_after p own gs f None) ≡ pair_of p gs own c f
+  found-pair c None = ap (pair_in c) (after_none p own gs None)
+  found-pair c (Some g) = ap (pair_in c) (after_kept p own gs g None) ∙ kept_pair c g (is_in g gs)
 
-  pub pairs-same : (ns : List Naming) (named table : List ℕ) → ((c : ℕ) → c < 256 → get_or named c 0 ≡ held_of (last_named p c None ns))
+  pub pairs-same : (ns : List Naming) (named table : List (Option ℕ)) → ((c : ℕ) → c < 256 → get_or named c None ≡ last_named p c None ns)
       → Renames p own gs named table → (m c : ℕ) → c + m ≤ 256 → pairs_in table m c ≡ pairs_from p ns gs own m c
   unfolding pairs_in pairs_from
   pairs-same ns named table at r zero c h = refl
   pairs-same ns named table at r (suc m) c h =
-      let e : get_or table c 0 ≡ held_after p own gs (held_of (last_named p c None ns)) 0 =
-      r.each c (omega arith) ∙ ap (λ (x : ℕ). held_after p own gs x 0) (at c (omega arith)) in
-      ap (λ (x : ℕ). pair_in c x ++ pairs_in table m (c + 1)) e
+      let e : get_or table c None ≡ held_after p own gs (last_named p c None ns) None =
+      r.each c (omega arith) ∙ ap (λ (x : Option ℕ). held_after p own gs x None) (at c (omega arith)) in
+      ap (λ (x : Option ℕ). pair_in c x ++ pairs_in table m (c + 1)) e
       ∙ ap (λ (x : List Pair). x ++ pairs_in table m (c + 1)) (found-pair c (last_named p c None ns))
       ∙ ap (λ (x : List Pair). pair_of p gs own c (last_named p c None ns) ++ x) (pairs-same ns named table at r m (c + 1) (omega arith))

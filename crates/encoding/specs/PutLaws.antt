@@ -1,10 +1,9 @@
 -- Laws of writing: one pair, the pairs that are left, and the whole encoding.
-use Rattle.std.specs.Prelude.{ℕ, suc, ◌+◌, ◌-◌, ◌≤◌, ◌<◌, ◌≡◌, refl, Bool, false, eqb, get_or}
+use Rattle.std.specs.Prelude.{ℕ, suc, ◌+◌, ◌-◌, ◌≤◌, ◌<◌, ◌≡◌, refl, get_or, None, Option, Some}
 use Rattle.std.proofs.Math.Path.{sym, ap}
-use Rattle.std.proofs.Common.{◌∙◌, subst, arith, eq-eqb, ne_eqb, length-append}
+use Rattle.std.proofs.Common.{◌∙◌, subst, arith, length-append}
 use mathlib.Core.List.{List, [], ◌∷◌, ◌++◌, append-nil}
 use Rattle.std.proofs.Math.ListN.{length}
-use Rattle.octets.specs.Pick.{pick}
 use Rattle.octets.specs.Octets.{bytes_of, put}
 use Rattle.octets.specs.OctetsLaws.{length-bytes}
 use Rattle.octets.specs.PutLaws.{put_nil, put-put}
@@ -20,59 +19,57 @@ use Rattle.encoding.specs.declared.Encoding.TheVariants.{Absent, Expert, Pairs}
 -- ---- one pair
 
 -- the bytes of the pair of a code, where there is one
-one-bytes : (code held : ℕ) → (held ≡ 0 → ⊥) → pair_bytes (pair_in code held) ≡ (code ∷ []) ++ bytes_of 2 (held - 1)
+one-bytes : (code id : ℕ) → pair_bytes (pair_in code (Some id)) ≡ (code ∷ []) ++ bytes_of 2 id
 unfolding pair_bytes
-one-bytes code held h =
-    let t : eqb held 0 ≡ false = ne_eqb held 0 h in
-    ap (λ (b : Bool). pair_bytes (pick b [] (record { code = code; id = held - 1 } ∷ []))) t ∙ ap (λ (l : List ℕ). code ∷ l) (append-nil (bytes_of 2 (held - 1)))
+one-bytes code id = ap (λ (l : List ℕ). code ∷ l) (append-nil (bytes_of 2 id))
 
-no_pair-bytes : (code held : ℕ) → held ≡ 0 → pair_bytes (pair_in code held) ≡ []
+pub one_none : (old : Out) (code : ℕ) (held : Option ℕ) → held ≡ None → Writes old (pair_bytes (pair_in code held)) old
 unfolding pair_bytes
-no_pair-bytes code held h = ap (λ (b : Bool). pair_bytes (pick b [] (record { code = code; id = held - 1 } ∷ []))) (eq-eqb held 0 h)
+one_none old code held h = writes_as (writes_none old) (sym (ap (λ (o : Option ℕ). pair_bytes (pair_in code o)) h))
 
-pub one_none : (old : Out) (code held : ℕ) → held ≡ 0 → Writes old (pair_bytes (pair_in code held)) old
-one_none old code held h = writes_as (writes_none old) (sym (no_pair-bytes code held h))
+module _ (old : Out) (code : ℕ) (held : Option ℕ) (id : ℕ) (h : held ≡ Some id) (room : old.at + length (pair_bytes (pair_in code held)) ≤ length old.bytes.now) where
+  is-bytes : pair_bytes (pair_in code held) ≡ (code ∷ []) ++ bytes_of 2 id
+  is-bytes = ap (λ (o : Option ℕ). pair_bytes (pair_in code o)) h ∙ one-bytes code id
 
-module _ (old : Out) (code held : ℕ) (h : held ≡ 0 → ⊥) (room : old.at + length (pair_bytes (pair_in code held)) ≤ length old.bytes.now) where
   pub one-room : old.at + 3 ≤ length old.bytes.now
   one-room =
-      let l : length (pair_bytes (pair_in code held)) ≡ suc (length (bytes_of 2 (held - 1))) = ap length (one-bytes code held h) in
-      omega (arith, length-bytes 2 (held - 1))
+      let l : length (pair_bytes (pair_in code held)) ≡ suc (length (bytes_of 2 id)) = ap length is-bytes in
+      omega (arith, length-bytes 2 id)
 
   pub one-second : {mid : Out} → Writes old (code ∷ []) mid → mid.at + 2 ≤ length mid.bytes.now
   one-second w = writes-room 2 w one-room
 
-  pub one-wrote : {mid new : Out} → Writes old (code ∷ []) mid → Writes mid (bytes_of 2 (held - 1)) new → Writes old (pair_bytes (pair_in code held)) new
-  one-wrote v w = writes_as (writes_then (omega (arith, one-room)) v w) (sym (one-bytes code held h))
+  pub one-wrote : {mid new : Out} → Writes old (code ∷ []) mid → Writes mid (bytes_of 2 id) new → Writes old (pair_bytes (pair_in code held)) new
+  one-wrote v w = writes_as (writes_then (omega (arith, one-room)) v w) (sym is-bytes)
 
 -- ---- all pairs
 
 -- those from code c on are left to write
-pub record PairsLeft (table : List ℕ) (old out : Out) (c : ℕ) : Type 0 where
+pub record PairsLeft (table : List (Option ℕ)) (old out : Out) (c : ℕ) : Type 0 where
   pub within : c ≤ 256
   pub same : out.bytes.ghost_name ≡ old.bytes.ghost_name
   pub size : length out.bytes.now ≡ length old.bytes.now
   pub behind : out.at + length (pair_bytes (pairs_in table (256 - c) c)) ≡ old.at + length (pair_bytes (pairs_in table 256 0))
   pub puts : put out.bytes.now out.at (pair_bytes (pairs_in table (256 - c) c)) ≡ put old.bytes.now old.at (pair_bytes (pairs_in table 256 0))
 
-pub left-start : (table : List ℕ) (old : Out) → PairsLeft table old old 0
+pub left-start : (table : List (Option ℕ)) (old : Out) → PairsLeft table old old 0
 left-start table old = record { within = omega arith; same = refl; size = refl; behind = refl; puts = refl }
 
-module _ (table : List ℕ) (old out : Out) (c : ℕ) (room : old.at + length (pair_bytes (pairs_in table 256 0)) ≤ length old.bytes.now)
+module _ (table : List (Option ℕ)) (old out : Out) (c : ℕ) (room : old.at + length (pair_bytes (pairs_in table 256 0)) ≤ length old.bytes.now)
     (l : PairsLeft table old out c) where
   module _ (h : c < 256) where
-    rest-bytes : pair_bytes (pairs_in table (256 - c) c) ≡ pair_bytes (pair_in c (get_or table c 0)) ++ pair_bytes (pairs_in table (256 - (c + 1)) (c + 1))
-    rest-bytes = ap pair_bytes (pairs-more table c h) ∙ pair-bytes-append (pair_in c (get_or table c 0)) (pairs_in table (256 - (c + 1)) (c + 1))
+    rest-bytes : pair_bytes (pairs_in table (256 - c) c) ≡ pair_bytes (pair_in c (get_or table c None)) ++ pair_bytes (pairs_in table (256 - (c + 1)) (c + 1))
+    rest-bytes = ap pair_bytes (pairs-more table c h) ∙ pair-bytes-append (pair_in c (get_or table c None)) (pairs_in table (256 - (c + 1)) (c + 1))
 
-    rest-length : length (pair_bytes (pairs_in table (256 - c) c)) ≡ length (pair_bytes (pair_in c (get_or table c 0))) + length (pair_bytes (pairs_in table (256 - (c + 1)) (c + 1)))
-    rest-length = ap length rest-bytes ∙ length-append (pair_bytes (pair_in c (get_or table c 0))) (pair_bytes (pairs_in table (256 - (c + 1)) (c + 1)))
+    rest-length : length (pair_bytes (pairs_in table (256 - c) c)) ≡ length (pair_bytes (pair_in c (get_or table c None))) + length (pair_bytes (pairs_in table (256 - (c + 1)) (c + 1)))
+    rest-length = ap length rest-bytes ∙ length-append (pair_bytes (pair_in c (get_or table c None))) (pair_bytes (pairs_in table (256 - (c + 1)) (c + 1)))
 
-    pub left-room : out.at + length (pair_bytes (pair_in c (get_or table c 0))) ≤ length out.bytes.now
+    pub left-room : out.at + length (pair_bytes (pair_in c (get_or table c None))) ≤ length out.bytes.now
     left-room = omega (arith, rest-length, l.behind, l.size)
 
-    pub left-next : {new : Out} → Writes out (pair_bytes (pair_in c (get_or table c 0))) new → PairsLeft table old new (c + 1)
+    pub left-next : {new : Out} → Writes out (pair_bytes (pair_in c (get_or table c None))) new → PairsLeft table old new (c + 1)
     left-next {new} w =
-        let xs = pair_bytes (pair_in c (get_or table c 0)) in
+        let xs = pair_bytes (pair_in c (get_or table c None)) in
         let ys = pair_bytes (pairs_in table (256 - (c + 1)) (c + 1)) in
         record {
           within = omega arith;
@@ -97,14 +94,14 @@ module _ (table : List ℕ) (old out : Out) (c : ℕ) (room : old.at + length (p
 
 -- ---- the whole
 
-module _ (out : Out) (table : List ℕ) (e : Encoding) where
+module _ (out : Out) (table : List (Option ℕ)) (e : Encoding) where
   pub absent-wrote : e ≡ Absent → Writes out (coded_bytes (coded_in e table)) out
   absent-wrote is = writes_as (writes_none out) (sym (ap (λ (x : Encoding). coded_bytes (coded_in x table)) is))
 
   pub expert-wrote : e ≡ Expert → Writes out (coded_bytes (coded_in e table)) out
   expert-wrote is = writes_as (writes_none out) (sym (ap (λ (x : Encoding). coded_bytes (coded_in x table)) is))
 
-module _ (out : Out) (table : List ℕ) (e : Encoding) (s : Encodes (coded_in e table) table e) (n : ℕ) (is : e ≡ Pairs n)
+module _ (out : Out) (table : List (Option ℕ)) (e : Encoding) (s : Encodes (coded_in e table) table e) (n : ℕ) (is : e ≡ Pairs n)
     (room : out.at + length (coded_bytes (coded_in e table)) ≤ length out.bytes.now) where
   abbrev rest : List ℕ
   rest = pair_bytes (pairs_in table 256 0)

@@ -1,21 +1,20 @@
-// The encoding of a subset (document 02, Wish 4), from the codes of the font and the new ids of the kept glyphs: made in a table of 256 places, which
-// hold 0 for a code without a pair, else the new id + 1; measured and written. The kept glyphs come from windows of their order (document 02, Wish 10),
-// once for all codes.
+// The encoding of a subset (document 02, Wish 4), from the codes of the font and the new ids of the kept glyphs: made in a table of all codes, measured
+// and written. The kept glyphs come from windows of their order (document 02, Wish 10), once for all codes.
 #![tactic(auto)]
 
-ghost use Rattle.std.specs.Prelude.{◌≡◌, ℕ, ◌+◌, ◌≤◌, ◌<◌, length, get_or, eqb};
-ghost use Rattle.octets.specs.Pick.{pick};
+ghost use Rattle.std.specs.Prelude.{◌≡◌, ◌+◌, ◌≤◌, ◌<◌, length};
 ghost use Rattle.octets.specs.Out.{Writes};
 ghost use Rattle.cff.specs.Reads.{program_of};
 ghost use Rattle.subset.specs.Codes.{coded_by_lem, coded_if, coded_bytes, pair_bytes};
 ghost use Rattle.order_window.specs.Stays.{kept_glyphs, Stays};
-ghost use Rattle.encoding.specs.Encoded.{pairs_of, pair_in, pairs_in, coded_in, Encodes, encoding_len, offset_for, own_kept, CanRename, Emptied, Puts, Renames};
+ghost use Rattle.encoding.specs.Encoded.{pairs_of, pair_in, pairs_in, coded_in, Encodes, encoding_len, offset_for, own_kept, CanRename, Past, Puts, Renames};
 
 use cff::loaded::Loaded;
 use index::items::Items;
 use name_strings::slots::GivenSlots;
 use octets::out::Out;
 use order_window::window::Kept;
+use own_strings::slots::Slot;
 
 // What a subset has: no encoding, the Expert one, or so many pairs of a table.
 #[derive(Clone, Copy)]
@@ -38,75 +37,79 @@ impl Encoding {
     }
 }
 
-// Empties the places of all codes; the highest glyph + 1 that a code has, or 0.
-fn empty(named: &[usize], table: &mut [usize]) -> usize
-    requires { (256 ≤ length named.now) × (256 ≤ length table.old) }
-    ensures { Emptied named.now 256 table.new result }
+// A number above those of all glyphs that have a code.
+fn past_all(named: &[Option<u16>; 256]) -> usize
+    ensures { Past named.now 256 result }
 {
-    table[..256].fill(0);
-    named[..256].iter().copied().max().unwrap_or(0)
-}
-
-// What the place of a code with this glyph + 1 holds once a glyph with its new id came by, both plus 1.
-fn held_for(named: usize, glyph: usize, id: usize, held: usize) -> usize
-    ensures { result ≡ pick (eqb named glyph) id held }
-{
-    if named == glyph {
-        return id;
+    let mut past = 0;
+    for glyph in named {
+        if let Some(g) = *glyph {
+            past = past.max(usize::from(g) + 1);
+        }
     }
-    held
+    past
 }
 
-// Puts the new id of a glyph into the places of its codes, both plus 1. No code has a glyph above the highest.
-fn put_id(named: &[usize], top: usize, glyph: usize, id: usize, table: &mut [usize])
-    requires { (256 ≤ length named.now) × (256 ≤ length table.old) × ((c : ℕ) → c < 256 → get_or named.now c 0 ≤ top) }
+// Puts the new id of a glyph into the places of its codes.
+fn put_id(
+    named: &[Option<u16>; 256],
+    past: usize,
+    glyph: u16,
+    id: u32,
+    table: &mut [Option<u32>; 256],
+)
+    requires { Past named.now 256 past }
     ensures { Puts named.now table.old glyph id table.new }
 {
-    if top < glyph {
+    if past <= usize::from(glyph) {
         return;
     }
-    for (code, held) in table[..256].iter_mut().enumerate() {
-        *held = held_for(named[code], glyph, id, *held);
+    for (code, held) in table.iter_mut().enumerate() {
+        if named[code] == Some(glyph) {
+            *held = Some(id);
+        }
     }
 }
 
-// The table of all codes, from the one of their glyphs: each kept glyph in its turn, with the new id of its name.
-fn rename(kept: &mut Kept<'_>, slots: &[usize], named: &[usize], table: &mut [usize])
-    requires { (CanRename kept.old.font.now kept.old.o.f kept.old.words.now slots.now) × (256 ≤ length named.now) × (256 ≤ length table.old) }
+// The table of all codes, from the one of their glyphs: each kept glyph in its turn, with the new id of its name. (An id is
+// as wide as the count of own strings may be: that they fit two bytes is tested by by_name.)
+fn rename(
+    kept: &mut Kept<'_>,
+    slots: &[Slot; 8],
+    named: &[Option<u16>; 256],
+    table: &mut [Option<u32>; 256],
+)
+    requires { CanRename kept.old.font.now kept.old.o.f kept.old.words.now slots.now }
     ensures { (Renames (program_of kept.old.font.now kept.old.o.f) (own_kept kept.old) (kept_glyphs kept.old) named.now table.new)
         × Stays kept.old kept.new }
 {
     let font = kept.font;
-    order::octets_in(font);
     let strings = Items {
         bytes: font,
         ix: kept.o.f.strings,
     };
-    let top = empty(named, &mut *table);
-    let given = GivenSlots {
-        strings,
-        ids: slots,
-    };
+    *table = [None; 256];
+    let past = past_all(named);
+    let given = GivenSlots { strings, slots };
     let mut own = name_strings::slots_own(&given);
     for i in 0..kept.o.count {
         let w = kept.word(i);
-        let id = own_strings::given_id(&strings, slots, 8, own.count, w / 65536);
+        let id = own_strings::given_id(&strings, slots, own.count, Some(w / 65536));
         own = own_strings::count_one(&strings, own, w / 65536, id);
-        put_id(named, top, w % 65536 + 1, id + 1, &mut *table);
+        put_id(named, past, (w % 65536) as u16, id as u32, &mut *table);
     }
 }
 
 // How many pairs the table holds.
-fn pair_count(table: &[usize]) -> usize
-    requires { 256 ≤ length table.now }
+fn pair_count(table: &[Option<u32>; 256]) -> usize
     ensures { (result ≡ length (pairs_in table.now 256 0)) × (result ≤ 256) }
 {
-    table[..256].iter().filter(|held| **held != 0).count()
+    table.iter().filter(|held| held.is_some()).count()
 }
 
 // The encoding of the subset of a name-keyed font, which was asked for.
-fn encode_asked(kept: &mut Kept<'_>, slots: &[usize], table: &mut [usize]) -> Encoding
-    requires { (CanRename kept.old.font.now kept.old.o.f kept.old.words.now slots.now) × (256 ≤ length table.old) }
+fn encode_asked(kept: &mut Kept<'_>, slots: &[Slot; 8], table: &mut [Option<u32>; 256]) -> Encoding
+    requires { CanRename kept.old.font.now kept.old.o.f kept.old.words.now slots.now }
     ensures { (Encodes
         (coded_by_lem (program_of kept.old.font.now kept.old.o.f) (kept_glyphs kept.old) (own_kept kept.old)
         (program_of kept.old.font.now kept.old.o.f).coding)
@@ -121,7 +124,7 @@ fn encode_asked(kept: &mut Kept<'_>, slots: &[usize], table: &mut [usize]) -> En
     if at == 1 {
         return Encoding::Expert;
     }
-    let mut named = [0usize; 256];
+    let mut named = [None; 256];
     codes::fill(
         &Loaded {
             bytes: kept.font,
@@ -135,8 +138,13 @@ fn encode_asked(kept: &mut Kept<'_>, slots: &[usize], table: &mut [usize]) -> En
 
 // The encoding of the subset of a name-keyed font, where it is asked for: of the kept glyphs by the new ids of their names, the slots holding the strings
 // that the subset uses before them.
-pub fn encode(kept: &mut Kept<'_>, ask: bool, slots: &[usize], table: &mut [usize]) -> Encoding
-    requires { (CanRename kept.old.font.now kept.old.o.f kept.old.words.now slots.now) × (256 ≤ length table.old) }
+pub fn encode(
+    kept: &mut Kept<'_>,
+    ask: bool,
+    slots: &[Slot; 8],
+    table: &mut [Option<u32>; 256],
+) -> Encoding
+    requires { CanRename kept.old.font.now kept.old.o.f kept.old.words.now slots.now }
     ensures { (Encodes (coded_if ask (program_of kept.old.font.now kept.old.o.f) (kept_glyphs kept.old) (own_kept kept.old)) table.new result)
         × Stays kept.old kept.new }
 {
@@ -169,31 +177,33 @@ pub fn encoding_at(e: Encoding, at: usize) -> usize
     }
 }
 
-// Writes the pair of a code, if there is one, by what the table holds of it.
-fn put_one(code: usize, held: usize, out: &mut Out<'_>)
+// Writes the pair of a code, if there is one.
+fn put_one(code: usize, held: Option<u32>, out: &mut Out<'_>)
     requires { (code < 256) × (out.old.at + length (pair_bytes (pair_in code held)) ≤ length out.old.bytes.now) }
     ensures { Writes out.old (pair_bytes (pair_in code held)) out.new }
 {
-    if held == 0 {
-        return;
+    match held {
+        None => {}
+        Some(id) => {
+            out.byte(code as u8);
+            out.num(id as usize, 2);
+        }
     }
-    out.byte(code as u8);
-    out.num(held - 1, 2);
 }
 
 // Writes all pairs of the table, codes rising.
-fn put_pairs(table: &[usize], out: &mut Out<'_>)
-    requires { (256 ≤ length table.now) × (out.old.at + length (pair_bytes (pairs_in table.now 256 0)) ≤ length out.old.bytes.now) }
+fn put_pairs(table: &[Option<u32>; 256], out: &mut Out<'_>)
+    requires { out.old.at + length (pair_bytes (pairs_in table.now 256 0)) ≤ length out.old.bytes.now }
     ensures { Writes out.old (pair_bytes (pairs_in table.now 256 0)) out.new }
 {
-    for (code, &held) in table[..256].iter().enumerate() {
+    for (code, &held) in table.iter().enumerate() {
         put_one(code, held, &mut *out);
     }
 }
 
 // Writes the encoding. Nothing is written for the predefined ones.
-pub fn put_encoding(e: Encoding, table: &[usize], out: &mut Out<'_>)
-    requires { Encodes (coded_in e table.now) table.now e × (pairs_of e ≤ 255) × (256 ≤ length table.now)
+pub fn put_encoding(e: Encoding, table: &[Option<u32>; 256], out: &mut Out<'_>)
+    requires { Encodes (coded_in e table.now) table.now e × (pairs_of e ≤ 255)
         × (out.old.at + length (coded_bytes (coded_in e table.now)) ≤ length out.old.bytes.now) }
     ensures { Writes out.old (coded_bytes (coded_in e table.now)) out.new }
 {

@@ -1,5 +1,5 @@
 -- What renumbering asks is one fact each, so that a type may hold it.
-use Rattle.std.specs.Prelude.{ℕ, Bool, List}
+use Rattle.std.specs.Prelude.{ℕ, List}
 use Rattle.std.proofs.Props.{props}
 use Rattle.unfold.specs.Unfold.{Row}
 use Rattle.cff.specs.Font.{Program}
@@ -11,5 +11,5 @@ use Rattle.failing.specs.Failing.{FdsMarked, Asks}
 pub fds_marked_prop : (p : Program) (keep used : List ℕ) → IsProp (FdsMarked p keep used)
 fds_marked_prop p keep used = Prim.hlevel props
 
-pub asks_prop : (b : List ℕ) (f : Font) (rows : List Row) (used ws : List ℕ) (globals : Ranks) (table : List Ranks) (rising : Bool) → IsProp (Asks b f rows used ws globals table rising)
-asks_prop b f rows used ws globals table rising = Prim.hlevel (props, held_prop)
+pub asks_prop : (b : List ℕ) (f : Font) (rows : List Row) (used ws : List ℕ) (globals : Ranks) (table : List Ranks) → IsProp (Asks b f rows used ws globals table)
+asks_prop b f rows used ws globals table = Prim.hlevel (props, held_prop)

@@ -1,5 +1,5 @@
 -- What is asked to find a body that cannot be renumbered (document 02, Wish 12), and what it says: one kept glyph runs it, and no other can be the culprit.
-use Rattle.std.specs.Prelude.{ℕ, ◌≤◌, ◌<◌, ◌≡◌, Bool, true, false, List, [], ◌∷◌, length, get_or, None, Option, Some}
+use Rattle.std.specs.Prelude.{ℕ, ◌≤◌, ◌<◌, ◌≡◌, true, false, List, [], ◌∷◌, length, get_or, None, Option, Some}
 use Rattle.octets.specs.Pick.{pick}
 use Rattle.unfold.specs.Unfold.{Row, glyph}
 use Rattle.prune.specs.Bodies.{All}
@@ -9,7 +9,6 @@ use Rattle.cff.specs.declared.font.Font.{Font}
 use Rattle.traced.specs.Traced.{record_of}
 use Rattle.traced.specs.RowLaws.{RowFits}
 use Rattle.traced.specs.Theorem.{kept_rows}
-use Rattle.reach.specs.Reach.{rises}
 use Rattle.renumber.specs.declared.Ranks.{Ranks}
 use Rattle.bodies.specs.Ways.{holds}
 use Rattle.fds.specs.Locals.{in_use_lem, fds_in, UsedOf}
@@ -27,12 +26,11 @@ pub record FdsMarked (p : Program) (keep used : List ℕ) : Type 0 where
   pub each : (i : ℕ) → i < length keep → in_use_lem used (get_or p.fds (get_or keep i 0) 0) ≡ true
 
 -- the words hold the bits of all subroutines that rows have, each of which is there
-pub record Asks (b : List ℕ) (f : Font) (rows : List Row) (used ws : List ℕ) (globals : Ranks) (table : List Ranks) (rising : Bool) : Type 0 where
+pub record Asks (b : List ℕ) (f : Font) (rows : List Row) (used ws : List ℕ) (globals : Ranks) (table : List Ranks) : Type 0 where
   pub read : FontHeld b f
   pub narrow : Narrow rows
   pub ranked : AllRanked (program_of b f) rows used ws globals table
   pub numbered : every_numbered (program_of b f) rows (fds_in used) ≡ true
-  pub order : rising ≡ true → rises rows ≡ true
   pub table_long : 256 ≤ length table
 
 -- the first of some glyphs whose charstring cannot be renumbered

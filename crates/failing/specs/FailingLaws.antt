@@ -28,8 +28,6 @@ use Rattle.subset.specs.KeptListLaws.{in_none, in_head, in_more, in_cases, in_pl
 use Rattle.subset.specs.Pruned.{local_set, global_set, calls_in, renumbered_body}
 use Rattle.faithful.specs.KeptLaws.{kept_is}
 use Rattle.faithful.specs.UsedLaws.{fd_there}
-use Rattle.reach.specs.Reach.{rises}
-use Rattle.unfold.specs.declared.Site.TheVariants.{Glyph}
 use Rattle.renumber.specs.Ranks.{calls_by, Ranked}
 use Rattle.renumber.specs.RanksLaws.{HoldsRanks, calls-in}
 use Rattle.renumber.specs.Turn.{Inputs, sized_of}
@@ -140,7 +138,7 @@ numbered_in p rows (y ∷ fs) x e h =
     let b = both_hold (numbered p rows y) (all_numbered p rows fs) e in
     ⊎_elim (λ z. ap (numbered p rows) (sym z) ∙ b.0) (λ m. numbered_in p rows fs x b.1 m) (in_cases y x fs h)
 
-module _ (b : List ℕ) (f : Font) (rows : List Row) (used ws : List ℕ) (globals : Ranks) (table : List Ranks) (rising : Bool) (a : Asks b f rows used ws globals table rising) where
+module _ (b : List ℕ) (f : Font) (rows : List Row) (used ws : List ℕ) (globals : Ranks) (table : List Ranks) (a : Asks b f rows used ws globals table) where
   abbrev q : Program
   q = program_of b f
 
@@ -178,12 +176,11 @@ module _ (b : List ℕ) (f : Font) (rows : List Row) (used ws : List ℕ) (globa
     is_its : locals ≡ ranks_in table its
     is_its = l ∙ ap (ranks_in table) (glyph_fd b f a.read g h fd e)
 
-    pub glyph_asks : Inputs code ws locals globals rows rising (Glyph g)
+    pub glyph_asks : Inputs code ws locals globals
     glyph_asks =
         record {
           local_ranks = subst (Ranked ws) (sym is_its) (local_ranked its (fd-byte b f a.read g h) u);
           global_ranks = global_ranked;
-          order = a.order;
           size = let n = ap length c in omega (arith, item-short b f.charstrings a.read.font.glyphs.held.good g h, a.read.size);
         }
 
@@ -299,6 +296,6 @@ module _ (b : List ℕ) (f : Font) (read : FontHeld b f) (keep rec : List ℕ) (
 
   -- what is asked once all subroutines are ranked
   pub asks_made : (octets : Octets rec) (used old ws : List ℕ) (table : List Ranks) (ranked : RankedAll) → RanksAll o (rows_of rec) used old ws table ranked → ranked.all ≡ true → 256 ≤ length table
-      → (rising : Bool) → rising ≡ rises (rows_of rec) → Asks b f (rows_of rec) used ws ranked.globals table rising
-  asks_made octets used old ws table ranked s all t rising e =
-      record { read = read; narrow = narrow_rows rec octets; ranked = s.ranked; numbered = sym s.told ∙ all; order = λ u. sym e ∙ u; table_long = t }
+      → Asks b f (rows_of rec) used ws ranked.globals table
+  asks_made octets used old ws table ranked s all t =
+      record { read = read; narrow = narrow_rows rec octets; ranked = s.ranked; numbered = sym s.told ∙ all; table_long = t }

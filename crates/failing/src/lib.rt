@@ -20,6 +20,7 @@ use crate::renumbering::Renumbering;
 use bodies::NO_RANKS;
 use faithful::read::Held;
 use fds::in_use::InUse;
+use reach::rows::Rows;
 use renumber::body::Body;
 use unfold::Site;
 
@@ -46,31 +47,31 @@ fn mark_fds(list: &KeepList<'_, '_>, used: &mut [u32])
 }
 
 // Whether the charstring of a glyph can be renumbered.
-fn is_made(by: &Renumbering<'_>, g: usize) -> bool
+fn is_made(by: &Renumbering<'_, '_>, g: usize) -> bool
     requires { (g < by.now.list.font.loaded.f.charstrings.count)
         × (in_use_lem by.now.used.now (get_or (program by.now.list.font.loaded).fds g 0) ≡ true) }
-    ensures { result ≡ holds (body_at (program by.now.list.font.loaded) (rows_of by.now.rows.now) (glyph g)) }
+    ensures { result ≡ holds (body_at (program by.now.list.font.loaded) (rows_of by.now.rows.bytes.now) (glyph g)) }
 {
     let font = by.list.font.loaded;
     let select = font.f.select;
     let charstrings = font.f.charstrings;
     let fd = charset::fd_select::fd_of(font.bytes, select, g) as usize;
     let locals = by.table[fd];
+    let rows = by.rows;
     let body = Body {
         code: index::item(font.bytes, charstrings, g),
         words: by.words,
         locals,
         globals: by.globals,
-        rows: by.rows,
-        rising: by.rising,
+        rows,
         site: Site::Glyph(g as u16),
     };
     renumbered::renumbered_len(&body).is_some()
 }
 
 // The first kept glyph whose charstring cannot be renumbered.
-fn first_failing(by: &Renumbering<'_>) -> Option<u16>
-    ensures { result ≡ first_failing (program by.now.list.font.loaded) (rows_of by.now.rows.now) (0 ∷ by.now.list.keep.now) }
+fn first_failing(by: &Renumbering<'_, '_>) -> Option<u16>
+    ensures { result ≡ first_failing (program by.now.list.font.loaded) (rows_of by.now.rows.bytes.now) (0 ∷ by.now.list.keep.now) }
 {
     if !is_made(by, 0) {
         return Some(0);
@@ -98,6 +99,10 @@ pub fn only_culprit(list: &KeepList<'_, '_>, rows: &[u8], words: &mut [u32]) -> 
     };
     let ranked = plan::rank_all(&fds, rows, &mut *words, &mut table);
     if ranked.all {
+        let rows = Rows {
+            bytes: rows,
+            rising: reach::masks::rises(rows),
+        };
         let by = Renumbering {
             list: *list,
             used: &used,
@@ -105,7 +110,6 @@ pub fn only_culprit(list: &KeepList<'_, '_>, rows: &[u8], words: &mut [u32]) -> 
             words: &*words,
             table: &table,
             rows,
-            rising: reach::masks::rises(rows),
         };
         return first_failing(&by);
     }

@@ -29,7 +29,7 @@ use Rattle.subset.specs.KeptListLaws.{in_at}
 use Rattle.faithful.specs.KeptLaws.{kept_is, kept-some, order-count, order-has, order_in, all-below}
 use Rattle.faithful.specs.FirstLaws.{first-name, first_cid}
 use Rattle.faithful.specs.FoundLaws.{found_name, found_cid}
-use Rattle.faithful.specs.UsedLaws.{used-has, used-some, used-count, used-one, new-fd-at, matrices_at, new_fds_there, new_fds_fit, new_fds_at}
+use Rattle.faithful.specs.UsedLaws.{used-has, used-some, used-count, used-one, new-fd-at, matrices_at, new_fds_there, new_fds_at}
 use Rattle.faithful.proofs.PrunedLaws.{pruned-fits, pruned_unfolds}
 use Rattle.faithful.specs.ByName.{codes_written, codes-read, by_name}
 use Rattle.faithful.specs.Codes.{CodesKept}
@@ -167,7 +167,7 @@ module _ (p : Program) (keep rec : List ℕ) (flag : ℕ) (good : GoodProgram p)
         let n = sorted-count in
         by-cid p name used sorted (bodies sorted sorted-inside) good ros (pruned-fits p (rows_of rec) used sorted flag good)
         (omega (arith, some.0)) (omega (arith, few)) (first_cid p keep good) (used-some p kept (get_or kept 0 0) good (kept-inside 0 some.0) (all-below (length p.charstrings) keep kept kept-inside 0 some.0)) (used-count p kept good)
-        (new_fds_there p kept good sorted sorted-inside (all-below (length p.charstrings) keep sorted sorted-inside)) (new_fds_fit p kept good sorted sorted-inside (all-below (length p.charstrings) keep sorted sorted-inside)) strings size
+        (new_fds_there p kept good sorted sorted-inside (all-below (length p.charstrings) keep sorted sorted-inside)) strings size
 
     -- what finding gives for the CID of the i-th glyph
     cid_given : (size : length of_cid ≤ 67108864) (i : ℕ) → i < length sorted → found_for p (get_or sorted i 0) of_cid ≡ Ok (Some i)

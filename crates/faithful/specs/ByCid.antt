@@ -7,7 +7,6 @@ use mathlib.Core.List.{List, [], ◌∷◌, ◌++◌, append-nil}
 use Rattle.std.proofs.Math.ListN.{length, drop}
 use Rattle.octets.specs.Pick.{pick}
 use Rattle.octets.specs.Lists.{all_below}
-use Rattle.octets.specs.Octets.{Octets}
 use Rattle.index.specs.Index.{found, read_index}
 use Rattle.index.specs.Write.{total, size_for, index_bytes, index_len_lem}
 use Rattle.index.specs.WriteLaws.{length-index}
@@ -145,7 +144,7 @@ module _ (p : Program) (used order : List ℕ) (b : Bodies) (at₁ : ℕ) where
         ∙ sym (append-nil (private_parts p used b.locals))
 
     module _ (good : GoodProgram p) (short : length bs ≤ 67108864) (few : length order < 65536) (fewFds : length used < 65536) (someFds : 0 < length used)
-        (below : all_below (length used) (new_fds p used order) ≡ true) (small : Octets (new_fds p used order)) where
+        (below : all_below (length used) (new_fds p used order) ≡ true) where
       -- the charstrings, the FD INDEX, FDSelect and the charset read back
       glyphs-read : read_index bs glyphs_place ≡ found b.charstrings (glyphs_place + length (index_bytes b.charstrings))
       glyphs-read = index_back bs glyphs_place b.charstrings _ (omega (arith, fitting.glyphs)) short glyphs_lie
@@ -156,7 +155,7 @@ module _ (p : Program) (used order : List ℕ) (b : Bodies) (at₁ : ℕ) where
       select_read : fd_select_at bs select_place (length b.charstrings) ≡ Ok (new_fds p used order)
       select_read =
           let n : length b.charstrings ≡ length (new_fds p used order) = fitting.glyphs ∙ sym (fds_length p used order) in
-          ap (fd_select_at bs select_place) n ∙ select-round bs select_place (new_fds p used order) _ select_lies (omega (arith, fds_length p used order)) small
+          ap (fd_select_at bs select_place) n ∙ select-round bs select_place (new_fds p used order) _ select_lies (omega (arith, fds_length p used order))
 
       ids-read : 3 ≤ at₁ → 0 < length order → get_or (cids_of p order) 0 0 ≡ 0 → ids_at bs (length b.charstrings) at₁ ≡ Ok (cids_of p order)
       ids-read far some first =
@@ -228,10 +227,10 @@ module _ (p : Program) (name used order : List ℕ) (b : Bodies) where
 -- a CID-keyed subset reads back
 pub by-cid : (p : Program) (name used order : List ℕ) (b : Bodies) → GoodProgram p → has_ros_lem (ros_in p.top) ≡ true → Fitting (length order) used b
     → 0 < length order → length order < 65536 → get_or (cids_of p order) 0 0 ≡ 0 → 0 < length used → length used < 65536
-    → all_below (length used) (new_fds p used order) ≡ true → Octets (new_fds p used order)
+    → all_below (length used) (new_fds p used order) ≡ true
     → length (own_by_cid p) ≤ 64609 → length (subset_by_cid p name used order b) ≤ 67108864
     → ReadsAs true (own_by_cid p) (cids_of p order) (new_fds p used order) (matrices_of p used) standard b (subset_by_cid p name used order b)
-by-cid p name used order b good there fitting some few first someFds fewFds below small fewStrings short =
+by-cid p name used order b good there fitting some few first someFds fewFds below fewStrings short =
     let bs = subset_by_cid p name used order b in
     let at₁ = charset_place p name used order b in
     let r = rest-place p name used order b in
@@ -240,8 +239,8 @@ by-cid p name used order b good there fitting some few first someFds fewFds belo
     let w₄ = array_within p used order b at₁ fitting bs r.0 r.1 in
     let top = cid_top-back p (own_by_cid p) at₁ (select_place p used order b at₁) (glyphs_place p used order b at₁) (array_place p used order b at₁) good there fewStrings
     (omega arith) (omega arith) (omega arith) (omega arith) in
-    let ps = private-dicts p used order b at₁ fitting bs r.0 r.1 good short few fewFds someFds below small in
-    let font = font-read p used order b at₁ fitting bs r.0 r.1 good short few fewFds someFds below small _ top.0 top.1 top.2 (omega arith) some first in
+    let ps = private-dicts p used order b at₁ fitting bs r.0 r.1 good short few fewFds someFds below in
+    let font = font-read p used order b at₁ fitting bs r.0 r.1 good short few fewFds someFds below _ top.0 top.1 top.2 (omega arith) some first in
     record {
       program =
           font_of (own_by_cid p) b.globals top.0 b.charstrings (cids_of p order)

@@ -40,6 +40,7 @@ fn locals_total(how: Manner, at: &Fd<'_>, words: &[u32], own: Ranks, rows: &[u8]
 }
 
 // The bytes of the new local subroutines of each FD in use, by the way; false where their renumbering fails.
+// (No one walk with `put_privates`: that writes a Private DICT before the locals of each FD, and cannot fail.)
 pub fn measure_locals(
     how: Manner,
     fds: &FdTable<'_, '_>,

@@ -115,7 +115,7 @@ module _ (b : List ℕ) (at : ℕ) (to : List ℕ) (w : Listing b at to) where
       = ap (λ (l : List Reading). behind w.done (gathered l)) (sym (readings_end b at h)) ∙ w.rest in
       w.is ∙ ap (λ (l : List ℕ). 0 ∷ l) (sym (append-nil w.done)) ∙ e
 
-  module _ (h : at < length b) (r : Result EntryAt Refusal) (e : r ≡ entry_told 0 (entry_at b at)) where
+  module _ (h : at < length b) (r : Result EntryAt Refusal) (e : r ≡ entry_told at 0 (entry_at b at)) where
     pub listing_refused : (n : Refusal) → r ≡ Err n → number_of n ∷ [] ≡ behind [] (dict_of b)
     unfolding gathered
     listing_refused n f = ap (λ (l : List Reading). behind w.done (gathered l)) (sym (left_stopped b at h r e n f)) ∙ w.rest
@@ -131,15 +131,12 @@ module _ (b : List ℕ) (at : ℕ) (to : List ℕ) (w : Listing b at to) where
       pub listing-room : length to + (3 + 11 * t.count) ≤ 1 + 11 * length b
       listing-room = omega (arith, listing_spans, w.room, placed.stands.inside)
 
-      pub listing_further : (at < t.next) × (t.next ≤ length b)
-      listing_further = (placed.stands.further, placed.stands.inside)
-
-      entry_is : entry_bytes t.op t.count (operands_at t.count b at) ≡ entry_bytes t.op (length placed.operands) placed.operands
+      entry_is : entry_bytes t.op t.count (operands_at t.count b t.start) ≡ entry_bytes t.op (length placed.operands) placed.operands
       entry_is =
-          ap (λ (ds : List Decimal). entry_bytes t.op t.count ds) (ap (λ (n : ℕ). operands_at n b at) placed.counted ∙ placed.stands.here)
+          ap (λ (ds : List Decimal). entry_bytes t.op t.count ds) (ap (operands_at t.count b) placed.starts ∙ ap (λ (n : ℕ). operands_at n b at) placed.counted ∙ placed.stands.here)
           ∙ ap (λ (n : ℕ). entry_bytes t.op n placed.operands) placed.counted
 
-      pub listing-turn : (newer : List ℕ) → newer ≡ to ++ entry_bytes t.op t.count (operands_at t.count b at) → Listing b t.next newer
+      pub listing-turn : (newer : List ℕ) → newer ≡ to ++ entry_bytes t.op t.count (operands_at t.count b t.start) → Listing b t.next newer
       unfolding gathered
       listing-turn newer x =
           let one = entry_bytes t.op (length placed.operands) placed.operands in

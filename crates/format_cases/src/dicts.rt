@@ -6,6 +6,7 @@ ghost use Rattle.format_cases.specs.Dicts.{decimal_bytes, operands_bytes, entry_
 
 use cases::answer::Answer;
 use decimal::{Decimal, number_at};
+use dict::entries::Entries;
 use octets::out::Out;
 
 // A decimal: its sign, its digits, and its powers of ten.
@@ -13,7 +14,7 @@ fn put_decimal(d: Decimal, to: &mut Answer)
     requires { length to.old + 11 ≤ 4096 }
     ensures { (to.new ≡ to.old ++ decimal_bytes d) × (length to.new ≡ length to.old + 11) }
 {
-    to.byte(cases::sign_of(d.neg));
+    to.byte(u8::from(d.neg));
     to.num(d.digits, 8);
     to.num(d.up, 1);
     to.num(d.down, 1);
@@ -57,13 +58,9 @@ fn of_dict(d: &[u8]) -> Answer
     ensures { result ≡ behind [] (dict_of d.now) }
 {
     let mut answer = Answer::one(0);
-    let mut at = 0;
-    while at < d.len() {
-        match dict::read_entry(d, at) {
-            Ok(entry) => {
-                put_entry(d, at, entry.count, entry.op, &mut answer);
-                at = entry.next;
-            }
+    for entry in Entries::new(d) {
+        match entry {
+            Ok(entry) => put_entry(d, entry.start, entry.count, entry.op, &mut answer),
             Err(refusal) => return Answer::one(refusal.number()),
         }
     }

@@ -44,7 +44,7 @@ fn charset_in(font: &[u8], at: usize, n: usize) -> Option<Answer>
     }
 }
 
-// Kind c: the ids of a charset.
+// Kind c: the ids of a charset. answer_fd_select begins alike, but allows no glyph: one for both would take that test and the rest, and is no plainer.
 pub fn answer_charset(input: &[u8]) -> Option<Answer>
     ensures { result ≡ charset_answer input.now }
 {

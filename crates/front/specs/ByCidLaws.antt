@@ -14,6 +14,7 @@ use Rattle.cff.specs.declared.loaded.Loaded.{Loaded}
 use Rattle.subset.specs.Texts.{own_strings_lem}
 use Rattle.subset.specs.Subset.{own_by_cid, top_by_cid}
 use Rattle.own_strings.specs.declared.Own.{Own}
+use Rattle.own_strings.specs.declared.slots.Slot.{Slot}
 use Rattle.own_strings.specs.Slots.{own_of, slots_own}
 use Rattle.own_strings.specs.Ready.{IndexRoom}
 use Rattle.top_dict.specs.Top.{top_len, top_cid}
@@ -24,7 +25,7 @@ use Rattle.front.specs.SlotLaws.{slots_slotted}
 use Rattle.front.specs.PrepareLaws.{cid_own}
 use Rattle.front.specs.FrontLaws.{front-sum, names-room, top-room, front-wrote, measured-front, front-room, top-short, strings-asked}
 
-module _ (p : Program) (slots : List ℕ) (ready : SlotsReady p true slots) where
+module _ (p : Program) (slots : List Slot) (ready : SlotsReady p true slots) where
   abbrev own : List (List ℕ)
   own = slots_own p.strings slots
 
@@ -62,7 +63,7 @@ module _ (p : Program) (slots : List ℕ) (ready : SlotsReady p true slots) wher
 
 -- ---- what the writers ask, and what they write
 
-module _ (font : Loaded) (slots : List ℕ) (own : Own) (name : List ℕ) (out : Out)
+module _ (font : Loaded) (slots : List Slot) (own : Own) (name : List ℕ) (out : Out)
     (z : out.at ≡ 0) (g : CidFront font.bytes.now font.f slots own (length name) (length out.bytes.now)) (all at₁ at₂ at₃ at₄ : ℕ) where
   abbrev p : Program
   p = program font

@@ -22,10 +22,11 @@ use Rattle.top_dict.specs.Top.{top_len, top_named}
 use Rattle.top_dict.specs.TopLaws.{named-measured}
 use Rattle.top_dict.specs.Slotted.{top-named_is}
 use Rattle.front.specs.Front.{kept_program, SlotsReady, front_len, header_bytes, front_bytes, NamedFront}
+use Rattle.own_strings.specs.declared.slots.Slot.{Slot}
 use Rattle.front.specs.SlotLaws.{slots_slotted}
 use Rattle.front.specs.FrontLaws.{front-sum, names-room, top-room, front-wrote, measured-front, front-room, top-short, strings-asked}
 
-module _ (b : List ℕ) (f : Font) (ws : List ℕ) (good : GoodFont b f) (slots : List ℕ) (ready : SlotsReady (program_of b f) false slots) where
+module _ (b : List ℕ) (f : Font) (ws : List ℕ) (good : GoodFont b f) (slots : List Slot) (ready : SlotsReady (program_of b f) false slots) where
   abbrev program : Program
   program = program_of b f
 
@@ -68,7 +69,7 @@ module _ (b : List ℕ) (f : Font) (ws : List ℕ) (good : GoodFont b f) (slots 
 
 -- ---- what the writers ask, and what they write
 
-module _ (k : Kept) (slots : List ℕ) (own : Own) (name : List ℕ) (out : Out)
+module _ (k : Kept) (slots : List Slot) (own : Own) (name : List ℕ) (out : Out)
     (all at₁ v at₂ size at₃ : ℕ) (z : out.at ≡ 0) (g : NamedFront k.font.now k.o.f v slots own k.words.now (length name) (length out.bytes.now)) where
   abbrev p : Program
   p = kept_program k

@@ -11,6 +11,7 @@ use Rattle.cff.specs.Reads.{program_of}
 use Rattle.cff.specs.declared.font.Font.{Font}
 use Rattle.cff.specs.declared.loaded.Loaded.{Loaded}
 use Rattle.own_strings.specs.declared.Own.{Own}
+use Rattle.own_strings.specs.declared.slots.Slot.{Slot}
 use Rattle.own_strings.specs.Slots.{own_of}
 use Rattle.own_strings.specs.Ready.{IndexRoom}
 use Rattle.top_dict.specs.Top.{Filled, top_len}
@@ -96,18 +97,18 @@ pub small_font : (font : Loaded) → length font.bytes.now ≤ 67108864 → Smal
 small_font font small = record { good = font.good; small = small }
 
 -- the new ids of a font's slots are string ids
-pub ready_filled : (b : List ℕ) (f : Font) (cid : Bool) (slots : List ℕ) → SmallFont b f → SlotsReady (program_of b f) cid slots → Filled slots
+pub ready_filled : (b : List ℕ) (f : Font) (cid : Bool) (slots : List Slot) → SmallFont b f → SlotsReady (program_of b f) cid slots → Filled slots
 ready_filled b f cid slots s g = slots_filled b f.strings (has-strings b f s) slots g.given
 
 -- the measured length is that of the front with any top DICT of the measured length
-pub measured-front : (p : Program) (cid : Bool) (v : ℕ) (slots : List ℕ) (own : Own) (all : ℕ) (name top : List ℕ) (strings : List (List ℕ))
+pub measured-front : (p : Program) (cid : Bool) (v : ℕ) (slots : List Slot) (own : Own) (all : ℕ) (name top : List ℕ) (strings : List (List ℕ))
     → top_len cid v p.top slots ≡ length top → own ≡ own_of strings → length (front_bytes all name top strings) ≡ front_len cid v p.top slots (length name) own
 measured-front p cid v slots own all name top strings m e =
     front_length all name top strings
     ∙ ap (λ (t : ℕ). 4 + index_len_lem 1 (length name) + index_len_lem 1 t + index_len_lem (length strings) (total strings)) (sym m)
     ∙ ap (λ (o : Own). 4 + index_len_lem 1 (length name) + index_len_lem 1 (top_len cid v p.top slots) + index_len_lem o.count o.total) (sym e)
 
-module _ (p : Program) (cid : Bool) (v : ℕ) (slots : List ℕ) (own : Own) (name : List ℕ) (out : Out) (z : out.at ≡ 0)
+module _ (p : Program) (cid : Bool) (v : ℕ) (slots : List Slot) (own : Own) (name : List ℕ) (out : Out) (z : out.at ≡ 0)
     (fits : Fits cid v p.top slots own (length name) (length out.bytes.now)) (all : ℕ) (top : List ℕ) (strings : List (List ℕ)) (m : top_len cid v p.top slots ≡ length top) (e : own ≡ own_of strings) where
   whole : length (front_bytes all name top strings) ≡ front_len cid v p.top slots (length name) own
   whole = measured-front p cid v slots own all name top strings m e

@@ -1,6 +1,6 @@
 -- Laws of the preparing: the own strings that the code counts are the subset's.
-use Rattle.std.specs.Prelude.{ℕ, ◌≤◌, ◌≡◌, true, false, List, [], length, take}
-use Rattle.std.proofs.Common.{ap, ◌∙◌, arith, length-take-le}
+use Rattle.std.specs.Prelude.{ℕ, ◌≤◌, ◌≡◌, true, false, List, [], length, Option}
+use Rattle.std.proofs.Common.{ap, ◌∙◌, arith}
 use Rattle.index.specs.Index.{items_of}
 use Rattle.index.specs.Write.{total}
 use Rattle.index.specs.declared.Index.{Index}
@@ -13,10 +13,11 @@ use Rattle.subset.specs.Subset.{own_by_name, own_by_cid}
 use Rattle.order_window.specs.declared.window.Kept.{Kept}
 use Rattle.order_window.specs.Stays.{order_of, kept_glyphs}
 use Rattle.own_strings.specs.declared.Own.{Own}
-use Rattle.own_strings.specs.Slots.{slot_texts, own_of, slots_own, all_own}
+use Rattle.own_strings.specs.declared.slots.Slot.{Slot}
+use Rattle.own_strings.specs.Slots.{sids_of, slot_texts, own_of, slots_own, all_own}
 use Rattle.own_strings.specs.Ready.{HasStrings}
 use Rattle.own_strings.specs.SlotTexts.{cid_texts}
-use Rattle.own_strings.specs.TurnLaws.{text-short}
+use Rattle.own_strings.specs.TurnLaws.{text-short, sids-length}
 use Rattle.own_strings.specs.StageLaws.{own-bound}
 use Rattle.name_strings.specs.Names.{strings_of}
 use Rattle.name_strings.specs.NamesLaws.{order-own}
@@ -29,29 +30,29 @@ has-strings b f s = record { good = s.good.begun.strings-held.good; small = s.sm
 -- ---- of a CID-keyed subset
 
 -- the own strings of the slots of a CID-keyed font are the subset's
-pub cid_own : (p : Program) (slots : List ℕ) → SlotsReady p true slots → slots_own p.strings slots ≡ own_by_cid p
-cid_own p slots g = ap (λ (l : List ℕ). own_strings_lem [] (slot_texts p.strings l)) g.front ∙ ap (own_strings_lem []) (cid_texts p)
+pub cid_own : (p : Program) (slots : List Slot) → SlotsReady p true slots → slots_own p.strings slots ≡ own_by_cid p
+cid_own p slots g = ap (λ (l : List (Option ℕ)). own_strings_lem [] (slot_texts p.strings l)) g.front ∙ ap (own_strings_lem []) (cid_texts p)
 
 -- how many they are, and how long
-pub slots-bound : (b : List ℕ) (ix : Index) → HasStrings b ix → (slots : List ℕ) → 16 ≤ length slots
+pub slots-bound : (b : List ℕ) (ix : Index) → HasStrings b ix → (slots : List Slot) → length slots ≡ 8
     → (length (slots_own (items_of b ix) slots) ≤ 8) × (total (slots_own (items_of b ix) slots) ≤ 536870912)
 unfolding total
-slots-bound b ix has slots room =
-    let e : length (take 8 slots) ≡ 8 = length-take-le 8 slots (omega arith) in
-    let f = own-bound (items_of b ix) (text-short b ix has) [] (take 8 slots) in
+slots-bound b ix has slots eight =
+    let e : length (sids_of slots) ≡ 8 = sids-length slots ∙ eight in
+    let f = own-bound (items_of b ix) (text-short b ix has) [] (sids_of slots) in
     (omega (arith, f.0, e), omega (arith, f.1, e))
 
-pub cid_measured : (font : Loaded) → length font.bytes.now ≤ 67108864 → (slots : List ℕ) → SlotsReady (program font) true slots → (own : Own)
+pub cid_measured : (font : Loaded) → length font.bytes.now ≤ 67108864 → (slots : List Slot) → SlotsReady (program font) true slots → (own : Own)
     → own ≡ own_of (slots_own (program font).strings slots) → Measured (own_by_cid (program font)) own
 cid_measured font small slots g own e =
-    let m = slots-bound font.bytes.now font.f.strings (record { good = font.good.begun.strings-held.good; small = small }) slots g.given.room in
+    let m = slots-bound font.bytes.now font.f.strings (record { good = font.good.begun.strings-held.good; small = small }) slots g.given.eight in
     let c = ap (λ (o : Own). o.count) e in
     let t = ap (λ (o : Own). o.total) e in
     record { is = e ∙ ap own_of (cid_own (program font) slots g); few = omega (arith, c, m.0); short = omega (arith, t, m.1) }
 
 -- ---- of a name-keyed subset
 
-pub named-measured : (k : Kept) (slots : List ℕ) → SlotsReady (kept_program k) false slots → (own : Own) → own ≡ own_of (all_own (strings_of k) slots (order_of k))
+pub named-measured : (k : Kept) (slots : List Slot) → SlotsReady (kept_program k) false slots → (own : Own) → own ≡ own_of (all_own (strings_of k) slots (order_of k))
     → own.count ≤ 65544 → own.total ≤ 4398583382016 → Measured (own_by_name (kept_program k) (kept_glyphs k)) own
 named-measured k slots g own e few short =
     record {

@@ -18,15 +18,15 @@ use name_strings::slots::GivenSlots;
 use name_strings::{count_names, put_slot_strings, put_strings};
 use octets::out::Out;
 use order_window::window::Kept;
+use own_strings::slots::Slot;
 use own_strings::{Own, put_slot_ids, put_slots};
 use top_dict::offsets::{CidOffsets, NamedOffsets};
-use top_dict::slots::Slots;
 use top_dict::top::Top;
 use top_dict::{put_cid_index, put_named_index, top_len};
 
 // The string ids of the top DICT given new ones, by the keying of the subset: slots; the own strings so far.
-fn prepare_slots(font: &Loaded<'_>, cid: bool, slots: &mut [usize]) -> Own
-    requires { (length font.now.bytes.now ≤ 67108864) × (16 ≤ length slots.old) }
+fn prepare_slots(font: &Loaded<'_>, cid: bool, slots: &mut [Slot; 8]) -> Own
+    requires { length font.now.bytes.now ≤ 67108864 }
     ensures { (SlotsReady (program font.now) cid slots.new)
         × (result ≡ own_of (slots_own (program font.now).strings slots.new)) }
 {
@@ -37,8 +37,8 @@ fn prepare_slots(font: &Loaded<'_>, cid: bool, slots: &mut [usize]) -> Own
 }
 
 // The string ids of the top DICT given new ones: slots; the own strings of a name-keyed subset, those of the names of the kept glyphs among them.
-pub fn prepare_named(kept: &mut Kept<'_>, slots: &mut [usize]) -> Own
-    requires { (length kept.old.font.now ≤ 67108864) × (16 ≤ length slots.old) × (NamesApart kept.old.font.now kept.old.o.f kept.old.words.now) }
+pub fn prepare_named(kept: &mut Kept<'_>, slots: &mut [Slot; 8]) -> Own
+    requires { (length kept.old.font.now ≤ 67108864) × (NamesApart kept.old.font.now kept.old.o.f kept.old.words.now) }
     ensures { (Measured (own_by_name (kept_program kept.old) (kept_glyphs kept.old)) result)
         × (SlotsReady (kept_program kept.old) false slots.new) × (Stays kept.old kept.new) }
 {
@@ -51,8 +51,8 @@ pub fn prepare_named(kept: &mut Kept<'_>, slots: &mut [usize]) -> Own
 }
 
 // The string ids of the top DICT given new ones: slots; the own strings of a CID-keyed subset.
-pub fn prepare_cid(font: &Loaded<'_>, slots: &mut [usize]) -> Own
-    requires { (length font.now.bytes.now ≤ 67108864) × (16 ≤ length slots.old) }
+pub fn prepare_cid(font: &Loaded<'_>, slots: &mut [Slot; 8]) -> Own
+    requires { length font.now.bytes.now ≤ 67108864 }
     ensures { (Measured (own_by_cid (program font.now)) result)
         × (SlotsReady (program font.now) true slots.new) }
 {
@@ -65,7 +65,7 @@ pub fn front_len(
     v: usize,
     font: &Loaded<'_>,
     name: usize,
-    slots: &[usize],
+    slots: &[Slot; 8],
     own: Own,
 ) -> usize
     requires { (length font.now.bytes.now ≤ 67108864) × (SlotsReady (program font.now) cid slots.now) × (name ≤ 65535)
@@ -76,7 +76,7 @@ pub fn front_len(
     let end = font.f.top_end;
     let count = own.count;
     let total = own.total;
-    let top = Top::read(&font.bytes[start..end], Slots { ids: slots });
+    let top = Top::read(&font.bytes[start..end], slots);
     let n = top_len(cid, v, &top);
     4 + index::index_len(1, name) + index::index_len(1, n) + index::index_len(count, total)
 }
@@ -91,8 +91,8 @@ fn put_names(name: &[u8], total: usize, out: &mut Out<'_>)
     index::put_single(out, name);
 }
 
-// Where charset, charstrings and Private of a name-keyed subset stand, the Encoding's offset, which is 0 for none, the size of the Private DICT,
-// and the length of the subset.
+// Where charset, charstrings and Private of a name-keyed subset stand, the Encoding's offset, the size of the Private DICT, and the length of the subset.
+// (The offset is the number that the top DICT has, of which 0 and 1 mean the predefined encodings: TN5176, section 12.)
 #[derive(Clone, Copy)]
 pub struct NamedPlaces {
     pub charset: usize,
@@ -107,7 +107,7 @@ pub struct NamedPlaces {
 pub fn put_front_named(
     kept: &mut Kept<'_>,
     name: &[u8],
-    slots: &[usize],
+    slots: &[Slot; 8],
     own: Own,
     at: NamedPlaces,
     out: &mut Out<'_>,
@@ -124,7 +124,7 @@ pub fn put_front_named(
     let font = kept.font;
     let start = kept.o.f.top;
     let end = kept.o.f.top_end;
-    let top = Top::read(&font[start..end], Slots { ids: slots });
+    let top = Top::read(&font[start..end], slots);
     let offsets = NamedOffsets {
         charset: at.charset,
         encoding: at.encoding,
@@ -152,7 +152,7 @@ pub struct CidPlaces {
 pub fn put_front_cid(
     font: &Loaded<'_>,
     name: &[u8],
-    slots: &[usize],
+    slots: &[Slot; 8],
     own: Own,
     at: CidPlaces,
     out: &mut Out<'_>,
@@ -167,7 +167,7 @@ pub fn put_front_cid(
 {
     let start = font.f.top;
     let end = font.f.top_end;
-    let top = Top::read(&font.bytes[start..end], Slots { ids: slots });
+    let top = Top::read(&font.bytes[start..end], slots);
     let offsets = CidOffsets {
         charset: at.charset,
         select: at.select,
@@ -175,10 +175,7 @@ pub fn put_front_cid(
         dicts: at.dicts,
     };
     let strings = font.strings();
-    let given = GivenSlots {
-        strings,
-        ids: slots,
-    };
+    let given = GivenSlots { strings, slots };
     put_names(name, at.end, &mut *out);
     put_cid_index(&top, offsets, &mut *out);
     put_slot_strings(&given, own, out);

@@ -10,7 +10,6 @@ use Rattle.charset.specs.FdPlaces.{fd_of}
 use Rattle.record.specs.Record.{rows_of}
 use Rattle.unfold.specs.Unfold.{Row}
 use Rattle.unfold.specs.Sites.{site_of}
-use Rattle.unfold.specs.declared.Site.TheVariants.{Glyph as GlyphSite}
 use Rattle.order_window.specs.Stays.{order_of, Stays, stays-refl, stays-of, stays-glyph}
 use Rattle.order_window.specs.declared.window.Kept.{Kept}
 use Rattle.renumber.specs.Ranks.{Ranked}
@@ -45,13 +44,12 @@ module _ {b ws : List ℕ} {table : List Ranks} {from : Source} {g : Glyph} {row
 
   module _ (locals : Ranks) (el : locals ≡ ranks_in table g.fd) (s : List ℕ) (es : s ≡ get_or (items_of b from.ix) g.number []) where
     -- what renumbering it asks
-    pub charstring_inputs : Inputs s ws locals from.how.globals rows from.how.rising (GlyphSite g.number)
+    pub charstring_inputs : Inputs s ws locals from.how.globals
     charstring_inputs =
         let n = ap length es in
         record {
           local_ranks = subst (Ranked ws) (sym el) w.local_ranks;
           global_ranks = w.global_ranks;
-          order = w.order;
           size = omega (arith, item-short b from.ix w.good g.number w.inside, w.size);
         }
 
@@ -68,7 +66,7 @@ module _ (one : Charstring) {b : Body} (w : Bodied one b) where
   body_is = by_way-reads way w
 
   new_is : new_by_way way b ≡ body_of_lem (written one)
-  new_is = new-body_is way (rows_of b.rows.now) (calls_of b) (site_of b.site) b.code.now ∙ ap body_of_lem body_is
+  new_is = new-body_is way (rows_of b.rows.bytes.now) (calls_of b) (site_of b.site) b.code.now ∙ ap body_of_lem body_is
 
   pub charstring-len : {r : Option ℕ} → (r ≡ sized_of (by_way way b)) × AtMost (5 * length b.code.now) r → (r ≡ sized_of (written one)) × AtMost 335544320 r
   charstring-len {r} q = (q.0 ∙ ap sized_of body_is, at_most_more (5 * length b.code.now) 335544320 (omega (arith, b.inputs.size)) r q.1)

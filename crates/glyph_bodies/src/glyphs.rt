@@ -1,7 +1,7 @@
 // The charstring of a glyph by the way: its length, and its bytes.
 ghost use Rattle.std.specs.Prelude.{◌≡◌, true, ◌+◌, ◌≤◌, ◌<◌, length};
 ghost use Rattle.octets.specs.Out.{Writes};
-ghost use Rattle.mask_rows.specs.MaskRows.{Covers, HasOrNone};
+ghost use Rattle.mask_rows.specs.MaskRows.{CoversOrNone, HasOrNone};
 ghost use Rattle.order_window.specs.Stays.{Stays};
 ghost use Rattle.renumber.specs.Turn.{sized_of, body_of_lem};
 ghost use Rattle.bodies.specs.Ways.{holds};
@@ -17,7 +17,7 @@ use mask_rows::Window;
 use mask_rows::lent::Lent;
 use octets::out::Out;
 use order_window::window::Kept;
-use renumber::body::Body;
+use renumber::body::{Body, rows_known};
 use unfold::Site;
 
 // The charstrings of a font, and how they are written.
@@ -52,16 +52,9 @@ fn body_of<'a>(one: &Charstring<'a>) -> Body<'a>
     let number = one.glyph.number;
     let locals = one.table[one.glyph.fd];
     let code = index::item(one.font, one.from.ix, number);
+    let rows = rows_known(one.rows, how.rising);
     let site = Site::Glyph(number as u16);
-    Body::new(
-        code,
-        one.words,
-        locals,
-        how.globals,
-        one.rows,
-        how.rising,
-        site,
-    )
+    Body::new(code, one.words, locals, how.globals, rows, site)
 }
 
 // How long the charstring of a glyph is by the way, or that its renumbering fails.
@@ -96,27 +89,27 @@ fn long_len(one: &Charstring<'_>, lent: &mut Lent<'_>) -> Option<usize>
     bodies::long_body_len(one.from.how.way, &long, lent)
 }
 
-// The same by a part of the record, where it has the rows of the glyph; a longer one takes the part's place.
-pub fn windowed_len(one: &Charstring<'_>, masks: Window, lent: &mut Lent<'_>) -> Option<usize>
-    requires { (Covers one.now.rows.now lent.old.bytes.now 2 0 masks) × (HasOrNone one.now.glyph.number masks) }
-    ensures { (result ≡ sized_of (written one.now)) × (AtMost 335544320 result) × (Covers one.now.rows.now lent.new.bytes.now 2 0 masks) }
+// The same by a part of the record that has the rows of the glyph; a longer one takes the part's place.
+pub fn windowed_len(
+    one: &Charstring<'_>,
+    masks: Option<Window>,
+    lent: &mut Lent<'_>,
+) -> Option<usize>
+    requires { (CoversOrNone one.now.rows.now lent.old.bytes.now 2 0 masks) × (HasOrNone one.now.glyph.number masks) }
+    ensures { (result ≡ sized_of (written one.now)) × (AtMost 335544320 result) × (CoversOrNone one.now.rows.now lent.new.bytes.now 2 0 masks) }
 {
-    let glyph = one.glyph;
-    if glyph.number < masks.from {
-        return charstring_len(one);
-    }
-    if glyph.number < masks.end {
-        let part = Charstring {
-            from: in_order(one.from),
-            glyph,
-            font: one.font,
-            words: one.words,
-            table: one.table,
-            rows: lent.rows(masks.len),
-        };
-        return charstring_len(&part);
-    }
-    long_len(one, lent)
+    let Some(masks) = masks else {
+        return long_len(one, lent);
+    };
+    let part = Charstring {
+        from: in_order(one.from),
+        glyph: one.glyph,
+        font: one.font,
+        words: one.words,
+        table: one.table,
+        rows: lent.rows(masks.len),
+    };
+    charstring_len(&part)
 }
 
 // The charstring of a glyph by the way.
@@ -138,26 +131,27 @@ fn put_long(one: &Charstring<'_>, out: &mut Out<'_>, lent: &mut Lent<'_>)
     bodies::put_long_body(one.from.how.way, &long, out, lent)
 }
 
-// The same by a part of the record, where it has the rows of the glyph; a longer one takes the part's place.
-pub fn put_windowed(one: &Charstring<'_>, masks: Window, out: &mut Out<'_>, lent: &mut Lent<'_>)
-    requires { (Covers one.now.rows.now lent.old.bytes.now 2 0 masks) × (HasOrNone one.now.glyph.number masks)
+// The same by a part of the record that has the rows of the glyph; a longer one takes the part's place.
+pub fn put_windowed(
+    one: &Charstring<'_>,
+    masks: Option<Window>,
+    out: &mut Out<'_>,
+    lent: &mut Lent<'_>,
+)
+    requires { (CoversOrNone one.now.rows.now lent.old.bytes.now 2 0 masks) × (HasOrNone one.now.glyph.number masks)
         × (holds (written one.now) ≡ true) × (out.old.at + length (body_of_lem (written one.now)) ≤ length out.old.bytes.now) }
-    ensures { (Writes out.old (body_of_lem (written one.now)) out.new) × (Covers one.now.rows.now lent.new.bytes.now 2 0 masks) }
+    ensures { (Writes out.old (body_of_lem (written one.now)) out.new) × (CoversOrNone one.now.rows.now lent.new.bytes.now 2 0 masks) }
 {
-    let glyph = one.glyph;
-    if glyph.number < masks.from {
-        return put_charstring(one, out);
-    }
-    if glyph.number < masks.end {
-        let part = Charstring {
-            from: in_order(one.from),
-            glyph,
-            font: one.font,
-            words: one.words,
-            table: one.table,
-            rows: lent.rows(masks.len),
-        };
-        return put_charstring(&part, out);
-    }
-    put_long(one, out, lent)
+    let Some(masks) = masks else {
+        return put_long(one, out, lent);
+    };
+    let part = Charstring {
+        from: in_order(one.from),
+        glyph: one.glyph,
+        font: one.font,
+        words: one.words,
+        table: one.table,
+        rows: lent.rows(masks.len),
+    };
+    put_charstring(&part, out)
 }

@@ -20,19 +20,11 @@ use crate::charstrings::Charstring;
 use crate::glyphs::Source;
 use crate::kept_bodies::KeptBodies;
 use bodies::Manner;
-use mask_rows::Window;
 use mask_rows::lent::Lent;
 use octets::out::Out;
 use order_window::window::Kept;
 use renumber::Ranks;
 use subset::Way;
-
-// A window that has the rows of no body.
-const NO_ROWS: Window = Window {
-    from: 0,
-    end: 0,
-    len: 0,
-};
 
 // Their bytes together, by parts of a record that does not rise.
 fn total_by_windows(all: &mut KeptBodies<'_, '_>) -> Option<usize>
@@ -45,7 +37,7 @@ fn total_by_windows(all: &mut KeptBodies<'_, '_>) -> Option<usize>
         keys: &mut keys,
         bytes: &mut bytes,
     };
-    let mut masks = NO_ROWS;
+    let mut masks = None;
     let table = all.table;
     let rows = all.rows;
     let how = all.how;
@@ -145,7 +137,7 @@ fn put_by_windows(all: KeptBodies<'_, '_>, total: usize, out: &mut Out<'_>)
         keys: &mut keys,
         bytes: &mut bytes,
     };
-    let mut masks = NO_ROWS;
+    let mut masks = None;
     let table = all.table;
     let rows = all.rows;
     let how = all.how;

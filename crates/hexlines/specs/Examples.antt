@@ -1,11 +1,11 @@
 -- Worked examples, computed.
 use Rattle.std.specs.Prelude.{◌≡◌, refl, [], ◌∷◌, None, Some}
 use Rattle.octets.specs.Lists.{before}
-use Rattle.hexlines.specs.Hexlines.{hex_value_lem, line_end, field_end_lem, is_hex_lem, spelt, hex_bytes}
+use Rattle.hexlines.specs.Hexlines.{hex_value_lem, octet_of, field_end_lem, is_hex_lem, spelt, hex_bytes}
 
 -- `f794`
 bytes : hex_bytes (0x66 ∷ 0x37 ∷ 0x39 ∷ 0x34 ∷ []) ≡ Some (0xf7 ∷ 0x94 ∷ [])
-unfolding hex_bytes is_hex_lem spelt hex_value_lem
+unfolding hex_bytes is_hex_lem spelt octet_of hex_value_lem
 bytes = refl
 
 -- an empty text
@@ -25,19 +25,11 @@ upper = refl
 
 -- the bytes next to the digits
 edges : hex_value_lem 47 ∷ hex_value_lem 48 ∷ hex_value_lem 57 ∷ hex_value_lem 58 ∷ hex_value_lem 96 ∷ hex_value_lem 97 ∷ hex_value_lem 102 ∷ hex_value_lem 103 ∷ []
-    ≡ 16 ∷ 0 ∷ 9 ∷ 16 ∷ 16 ∷ 10 ∷ 15 ∷ 16 ∷ []
+    ≡ None ∷ Some 0 ∷ Some 9 ∷ None ∷ None ∷ Some 10 ∷ Some 15 ∷ None ∷ []
 unfolding hex_value_lem
 edges = refl
 
--- `e 0`, a line feed, `e`: two lines, the first of two fields
-first-line : line_end (101 ∷ 32 ∷ 48 ∷ 10 ∷ 101 ∷ []) 0 ≡ 3
-unfolding line_end before
-first-line = refl
-
-last_line : line_end (101 ∷ 32 ∷ 48 ∷ 10 ∷ 101 ∷ []) 4 ≡ 5
-unfolding line_end before
-last_line = refl
-
+-- `e 0`, a line feed, `e`: the fields of two lines
 first_field : field_end_lem (101 ∷ 32 ∷ 48 ∷ 10 ∷ 101 ∷ []) 0 3 ≡ 1
 unfolding field_end_lem before
 first_field = refl

@@ -1,22 +1,23 @@
 -- Lines of lower-case hexadecimal (document 01, 'One sheet, whole'): two digits to a byte, the high one first. A line ends at a
 -- line feed (10) or with the text; the fields of a line have a blank (32) between them.
-use Rattle.std.specs.Prelude.{ℕ, ◌+◌, ◌-◌, ◌*◌, ◌/◌, ◌%◌, ◌≡◌, Bool, true, false, List, [], ◌∷◌, ltb, leb, length, drop, None, Option, Some}
+use Rattle.std.specs.Prelude.{ℕ, ◌+◌, ◌-◌, ◌*◌, ◌/◌, ◌%◌, ◌≡◌, Bool, true, false, List, [], ◌∷◌, ltb, leb, length, None, Option, Some}
+use Rattle.std.specs.Option.{is_some, unwrap_or}
 use Rattle.std.proofs.Math.Seq.{slice}
 use Rattle.octets.specs.Pick.{pick}
 use Rattle.octets.specs.Octets.{put}
 use Rattle.octets.specs.Lists.{before}
 
--- the value of a digit, 0 to 9 (48 to 57) or a to f (97 to 102), and 16 for any other byte
-unfoldable pub hex_value_lem : ℕ → ℕ
+-- the value of a digit, 0 to 9 (48 to 57) or a to f (97 to 102), and none for any other byte
+unfoldable pub hex_value_lem : ℕ → Option ℕ
 hex_value_lem b =
-    pick (ltb b 48) 16
-    (pick (leb b 57) (b - 48)
-    (pick (ltb b 97) 16
-    (pick (leb b 102) (b - 97 + 10) 16)))
+    pick (ltb b 48) None
+    (pick (leb b 57) (Some (b - 48))
+    (pick (ltb b 97) None
+    (pick (leb b 102) (Some (b - 97 + 10)) None)))
 
--- the place of the first line feed at or after a place, the length where there is none
-unfoldable pub line_end : List ℕ → ℕ → ℕ
-line_end s at = at + before 10 (drop at s)
+-- the byte of two digits
+unfoldable pub octet_of : ℕ → ℕ → ℕ
+octet_of high low = unwrap_or (hex_value_lem high) 0 * 16 + unwrap_or (hex_value_lem low) 0
 
 -- the place of the first blank from a place on, the end where there is none
 unfoldable pub field_end_lem : List ℕ → ℕ → ℕ → ℕ
@@ -26,13 +27,13 @@ field_end_lem s at end = at + before 32 (slice at end s)
 unfoldable pub is_hex_lem : List ℕ → Bool
 is_hex_lem [] = true
 is_hex_lem (x ∷ []) = false
-is_hex_lem (x ∷ (y ∷ rest)) = pick (ltb 15 (hex_value_lem x)) false (pick (ltb 15 (hex_value_lem y)) false (is_hex_lem rest))
+is_hex_lem (x ∷ (y ∷ rest)) = pick (is_some (hex_value_lem x)) (pick (is_some (hex_value_lem y)) (is_hex_lem rest) false) false
 
 -- the bytes that digits spell
 unfoldable pub spelt : List ℕ → List ℕ
 spelt [] = []
 spelt (x ∷ []) = []
-spelt (x ∷ (y ∷ rest)) = (hex_value_lem x * 16 + hex_value_lem y) ∷ spelt rest
+spelt (x ∷ (y ∷ rest)) = octet_of x y ∷ spelt rest
 
 -- the bytes of a text of hexadecimal, and none where it is not one
 unfoldable pub hex_bytes : List ℕ → Option (List ℕ)

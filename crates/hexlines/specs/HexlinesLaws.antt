@@ -1,27 +1,25 @@
 -- Laws of lines, fields and hexadecimal, as the functions meet them: a byte at a time, a pair of digits at a time.
 use Prim.Native.Nat.{ℕ, zero, suc, ◌+◌, ◌-◌, ◌*◌, ◌≤◌, ◌<◌}
-use Rattle.std.specs.Prelude.{◌≡◌, refl, Bool, true, false, List, [], ◌∷◌, ltb, get_or, None, Option, Some, drop, take}
-use Rattle.std.proofs.Common.{sym, ap, ◌∙◌, not-suc-le-zero, length-drop, take_all}
+use Rattle.std.specs.Prelude.{◌≡◌, refl, Bool, true, false, List, [], ◌∷◌, ◌++◌, ltb, leb, get_or, None, Option, Some, drop, take}
+use Rattle.std.specs.Option.{is_some, unwrap_or}
+use Rattle.std.proofs.Common.{sym, ap, ◌∙◌, length-drop, take_all, leb-true}
+use Rattle.std.proofs.lemmas.Bool.{false≢true}
 use native.Mathlib.Omega.{arith}
 use borrow.Author.Tests.{lt-ltb, le-ltb, ltb-false}
 use Rattle.std.proofs.Math.ListN.{length}
-use Rattle.std.proofs.Math.Seq.{slice, slice_empty, slice-cons, length-slice, take-length}
-use Rattle.octets.specs.Pick.{pick}
-use Rattle.octets.specs.PickLaws.{other_holds}
+use Rattle.std.proofs.Math.Seq.{take-length}
+use Rattle.octets.specs.Pick.{pick, pick_ind}
+use Rattle.octets.specs.PickLaws.{both_hold}
 use Rattle.octets.specs.Octets.{Octets, put, Wrote}
 use Rattle.octets.specs.PutLaws.{put_nil}
 use Rattle.octets.specs.Lists.{before}
-use Rattle.hexlines.specs.Hexlines.{hex_value_lem, line_end, field_end_lem, is_hex_lem, spelt, hex_bytes, room_for, Unhexes}
+use Rattle.hexlines.specs.Hexlines.{hex_value_lem, octet_of, field_end_lem, is_hex_lem, spelt, hex_bytes, room_for, Unhexes}
 
 -- ---- the first of a byte
 
 -- a part that goes to the end is all that is left
 rest_is : (s : List ℕ) (at : ℕ) → take (length s - at) (drop at s) ≡ drop at s
 rest_is s at = take_all (length s - at) (drop at s) (omega (arith, length-drop at s))
-
-pub line-place : (s : List ℕ) (at : ℕ) → at + before 10 (take (length s - at) (drop at s)) ≡ line_end s at
-unfolding line_end
-line-place s at = rw (rest_is s at)
 
 pub field-place : (s : List ℕ) (at : ℕ) → at + before 32 (take (length s - at) (drop at s)) ≡ field_end_lem s at (length s)
 unfolding field_end_lem
@@ -38,60 +36,48 @@ hexadecimal : (t : Bool) (cs bs : List ℕ) → pick t (Some cs) None ≡ Some b
 hexadecimal true cs bs e = (refl, cc)
 hexadecimal false cs bs e = absurd (let z : ◌≡◌ {A = ℕ} 0 1 = cc in omega arith)
 
+-- a digit's value is below 16
+pub digit_small : (b : ℕ) → unwrap_or (hex_value_lem b) 0 ≤ 15
+unfolding hex_value_lem
+digit_small b =
+    pick_ind (λ o. unwrap_or o 0 ≤ 15) (ltb b 48) _ _ (λ e. omega arith) (λ e.
+    pick_ind (λ o. unwrap_or o 0 ≤ 15) (leb b 57) _ _ (λ f. omega (arith, leb-true b 57 f)) (λ f.
+    pick_ind (λ o. unwrap_or o 0 ≤ 15) (ltb b 97) _ _ (λ g. omega arith) (λ g.
+    pick_ind (λ o. unwrap_or o 0 ≤ 15) (leb b 102) _ _ (λ h. omega (arith, leb-true b 102 h)) (λ h. omega arith))))
+
+pub octet_small : (x y : ℕ) → octet_of x y < 256
+unfolding octet_of
+octet_small x y = omega (arith, digit_small x, digit_small y)
+
 -- what a text of hexadecimal says of its first pair
-pub hex-more : (x : ℕ) (u : List ℕ) → is_hex_lem (x ∷ u) ≡ true → 0 < length u
+hex-more : (x : ℕ) → is_hex_lem (x ∷ []) ≡ true → ⊥
 unfolding is_hex_lem
-hex-more x [] h = absurd (let z : ◌≡◌ {A = ℕ} 0 1 = cc in omega arith)
-hex-more x (y ∷ u) h = omega arith
+hex-more x h = false≢true h
 
-pub hex-held : (x y : ℕ) (u : List ℕ) → is_hex_lem (x ∷ (y ∷ u)) ≡ true → (hex_value_lem x ≤ 15) × (hex_value_lem y ≤ 15) × (is_hex_lem u ≡ true)
+hex-rest : (x y : ℕ) (u : List ℕ) → is_hex_lem (x ∷ (y ∷ u)) ≡ true → is_hex_lem u ≡ true
 unfolding is_hex_lem
-hex-held x y u h =
-    let p = other_holds (ltb 15 (hex_value_lem x)) _ h in
-    let q = other_holds (ltb 15 (hex_value_lem y)) _ p.1 in
-    (ltb-false 15 (hex_value_lem x) p.0, ltb-false 15 (hex_value_lem y) q.0, q.1)
+hex-rest x y u h = (both_hold (is_some (hex_value_lem y)) _ (both_hold (is_some (hex_value_lem x)) _ h).1).1
 
--- a pair of digits at i, and what follows it
-pub record Pair (s : List ℕ) (i end : ℕ) : Type 0 where
-  pub whole : i + 2 ≤ end
-  pub high : hex_value_lem (get_or s i 0) ≤ 15
-  pub low : hex_value_lem (get_or s (i + 1) 0) ≤ 15
-  pub rest : is_hex_lem (slice (i + 2) end s) ≡ true
-
-module _ (s : List ℕ) (i end : ℕ) (k : end ≤ length s) where
-  -- the first two of a part
-  pub slice-two : i + 2 ≤ end → slice i end s ≡ get_or s i 0 ∷ (get_or s (i + 1) 0 ∷ slice (i + 2) end s)
-  slice-two h =
-      let a : i < end = omega arith in
-      let b : suc i < end = omega arith in
-      let m : suc i ≡ i + 1 = omega arith in
-      let n : suc (suc i) ≡ i + 2 = omega arith in
-      slice-cons i end s 0 a k
-      ∙ ap (λ (l : List ℕ). get_or s i 0 ∷ l) (slice-cons (suc i) end s 0 b k ∙ rw (n, m))
-
-  pub hex-pair : i < end → is_hex_lem (slice i end s) ≡ true → Pair s i end
-  hex-pair h t =
-      let m = hex-more (get_or s i 0) (slice (suc i) end s) (rw (slice-cons i end s 0 h k) at t) in
-      let w : i + 2 ≤ end = omega (arith, m, length-slice (suc i) end s k) in
-      let q = hex-held (get_or s i 0) (get_or s (i + 1) 0) (slice (i + 2) end s) (rw (slice-two w) at t) in
-      record { whole = w; high = q.0; low = q.1; rest = q.2 }
-
-  -- the byte of the first pair, by the values of its digits
-  pub spelt-two : (h l : ℕ) → h ≡ hex_value_lem (get_or s i 0) → l ≡ hex_value_lem (get_or s (i + 1) 0) → i + 2 ≤ end
-      → spelt (slice i end s) ≡ (h * 16 + l) ∷ spelt (slice (i + 2) end s)
-  unfolding spelt
-  spelt-two h l high low w = rw (slice-two w, high, low)
-
-pub spelt-none : (s : List ℕ) (i end : ℕ) → i ≡ end → spelt (slice i end s) ≡ []
+-- the byte of a pair, and those of what follows it
+pub spelt-pair : (xs ys : List ℕ) → length xs ≡ 2 → spelt (xs ++ ys) ≡ octet_of (get_or xs 0 0) (get_or xs 1 0) ∷ spelt ys
 unfolding spelt
-spelt-none s i end e = rw (e, slice_empty)
+spelt-pair (x ∷ y ∷ []) ys h = refl
+spelt-pair [] ys h = cc
+spelt-pair (x ∷ []) ys h = cc
+spelt-pair (x ∷ y ∷ z ∷ xs) ys h = cc
+
+pub spelt-none : (s : List ℕ) → length s < 2 → spelt s ≡ []
+unfolding spelt
+spelt-none [] h = refl
+spelt-none (x ∷ []) h = refl
+spelt-none (x ∷ (y ∷ s)) h = absurd (omega arith)
 
 -- two digits to a byte
 pub spelt-length : (t : List ℕ) → is_hex_lem t ≡ true → length (spelt t) * 2 ≡ length t
 unfolding spelt
 spelt-length [] h = refl
-spelt-length (x ∷ []) h = absurd (not-suc-le-zero (hex-more x [] h))
-spelt-length (x ∷ (y ∷ u)) h = omega (arith, spelt-length u (hex-held x y u h).2)
+spelt-length (x ∷ []) h = absurd (hex-more x h)
+spelt-length (x ∷ (y ∷ u)) h = omega (arith, spelt-length u (hex-rest x y u h))
 
 -- ---- what is written
 
@@ -157,9 +143,9 @@ unfolding hex_bytes
 bytes-some text bs e = hexadecimal (is_hex_lem text) (spelt text) bs e
 
 -- and each is below 256
-pub spelt_octets : (text : List ℕ) → is_hex_lem text ≡ true → Octets (spelt text)
+pub spelt_octets : (text : List ℕ) → Octets (spelt text)
 unfolding spelt
-spelt_octets [] h i = omega arith
-spelt_octets (x ∷ []) h i = omega arith
-spelt_octets (x ∷ (y ∷ u)) h zero = let q = hex-held x y u h in omega (arith, q.0, q.1)
-spelt_octets (x ∷ (y ∷ u)) h (suc i) = spelt_octets u (hex-held x y u h).2 i
+spelt_octets [] i = omega arith
+spelt_octets (x ∷ []) i = omega arith
+spelt_octets (x ∷ (y ∷ u)) zero = octet_small x y
+spelt_octets (x ∷ (y ∷ u)) (suc i) = spelt_octets u i

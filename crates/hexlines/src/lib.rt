@@ -4,25 +4,24 @@
 ghost use Rattle.std.specs.Prelude.{◌≡◌, true, ◌≤◌, length};
 ghost use Rattle.octets.specs.Octets.{Wrote};
 ghost use Rattle.octets.specs.Lists.{before};
-ghost use Rattle.hexlines.specs.Hexlines.{hex_value_lem, line_end, field_end_lem, is_hex_lem, spelt, hex_bytes, room_for, Unhexes};
+ghost use Rattle.hexlines.specs.Hexlines.{hex_value_lem, octet_of, field_end_lem, is_hex_lem, spelt, hex_bytes, room_for, Unhexes};
 
-// The value of a digit, and 16 for a byte that is none.
-pub fn hex_value(b: u8) -> usize
-    ensures { (result ≡ hex_value_lem b) × (result ≤ 16) }
+// The value of a digit; none for any other byte.
+pub fn hex_value(b: u8) -> Option<u8>
+    ensures { result ≡ hex_value_lem b }
 {
-    if b < b'0' {
-        return 16;
+    match b {
+        b'0'..=b'9' => Some(b - b'0'),
+        b'a'..=b'f' => Some(b - b'a' + 10),
+        _ => None,
     }
-    if b <= b'9' {
-        return usize::from(b - b'0');
-    }
-    if b < b'a' {
-        return 16;
-    }
-    if b <= b'f' {
-        return usize::from(b - b'a') + 10;
-    }
-    16
+}
+
+// The byte of two digits, the high one first; a byte that is no digit counts as 0.
+pub fn octet_of(high: u8, low: u8) -> u8
+    ensures { result ≡ octet_of high low }
+{
+    hex_value(high).unwrap_or(0) * 16 + hex_value(low).unwrap_or(0)
 }
 
 // The place of the first b, and the length where there is none. An Option is no plainer: where a line or a field ends, and which row of a report
@@ -34,14 +33,6 @@ pub fn place_of(s: &[u8], b: u8) -> usize
         Some(k) => k,
         None => s.len(),
     }
-}
-
-// The place of the first line feed at or after at, and the end of s where there is none.
-pub fn line_end(s: &[u8], at: usize) -> usize
-    requires { at ≤ length s.now }
-    ensures { (result ≡ line_end s.now at) × (at ≤ result) × (result ≤ length s.now) }
-{
-    at + place_of(&s[at..], b'\n')
 }
 
 // The place of the first blank at or after at, and the end of s where there is none.
@@ -56,7 +47,7 @@ pub fn field_end(s: &[u8], at: usize) -> usize
 pub fn is_hex(s: &[u8]) -> bool
     ensures { result ≡ is_hex_lem s.now }
 {
-    s.len() % 2 == 0 && s.iter().all(|x| hex_value(*x) < 16)
+    s.len() % 2 == 0 && s.iter().all(|x| hex_value(*x).is_some())
 }
 
 // Writes the bytes that digits spell to the start of out; returns how many they are.
@@ -64,13 +55,10 @@ pub fn put_spelt(out: &mut [u8], s: &[u8]) -> usize
     requires { (is_hex_lem s.now ≡ true) × (length (spelt s.now) ≤ length out.old) }
     ensures { Wrote out.old 0 (spelt s.now) out.new result }
 {
-    let count = s.len() / 2;
-    for i in 0..count {
-        let high = hex_value(s[2 * i]);
-        let low = hex_value(s[2 * i + 1]);
-        out[i] = (high * 16 + low) as u8;
+    for (i, pair) in s.chunks_exact(2).enumerate() {
+        out[i] = octet_of(pair[0], pair[1]);
     }
-    count
+    s.len() / 2
 }
 
 // The bytes that digits spell, written to the start of out: how many they are; or None, with out as it was, for an odd count of digits,

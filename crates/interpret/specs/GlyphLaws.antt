@@ -1,5 +1,5 @@
 -- Laws of a glyph's run: what it answers is over the glyph's unfolding, and the rows that it meets are a run's.
-use Rattle.std.specs.Prelude.{ℕ, ◌≡◌, Bool, true, false}
+use Rattle.std.specs.Prelude.{ℕ, ◌≡◌, Bool, true, false, Ok, Err}
 use Rattle.std.proofs.Math.Path.{refl, ap, subst}
 use Rattle.std.proofs.Common.{sym, ◌∙◌, arith}
 use mathlib.Core.List.{List, [], ◌∷◌}
@@ -15,12 +15,11 @@ use Rattle.interpret.specs.Trace.{Trace, trace_body, fresh}
 use Rattle.interpret.specs.TraceLaws.{tell, meets-none, body_as}
 use Rattle.interpret.specs.Rows.{own, RowMet, Proper}
 use Rattle.interpret.specs.RowsLaws.{proper_body}
-use Rattle.interpret.specs.Run.{globals_in, locals_in, Telling, Tells, Meeting, Meets}
+use Rattle.interpret.specs.Run.{globals_in, locals_in, Ran, Telling, Tells, Meeting, Meets}
 use Rattle.interpret.specs.RunLaws.{notes_none}
 use Rattle.interpret.specs.declared.Subrs.{Subrs}
 use Rattle.interpret.specs.declared.Range.{Range}
-use Rattle.interpret.specs.declared.Ran.{Ran}
-use Rattle.interpret.specs.declared.Ran.TheVariants.{Broken, Returned, Ended}
+use Rattle.interpret.specs.declared.End.TheVariants.{Returned, Ended}
 
 pub fresh-few : Few fresh
 fresh-few = record { operands = omega arith; hints = omega arith }
@@ -63,9 +62,9 @@ module _ (font : List ℕ) (q : Subrs) (g : ℕ) (code : List ℕ) (range : Rang
 
   -- any other: by how its run ends
   abbrev met_by : Ran → Bool
-  met_by Broken = false
-  met_by (Returned x) = false
-  met_by Ended = true
+  met_by (Err e) = false
+  met_by (Ok (Returned x)) = false
+  met_by (Ok Ended) = true
 
   pub glyph_ran : (length code ≡ 0 → ⊥) → {new : Filling} {a : Ran} → Tells (trace_body (globals_in font q) (locals_in font q) q.fd 10 (glyph g) code fresh) range old new a
       → (b : Ran) → a ≡ b → Meets (unfold_glyph (globals_in font q) (locals_in font q) q.fd g code) range old new (met_by b)

@@ -1,15 +1,17 @@
 -- Every row of a run is one that it can meet, and what that says of its fields.
 use Prim.Native.Nat.{ℕ, zero, suc, ◌+◌, ◌≤◌, ◌<◌}
-use Rattle.std.specs.Prelude.{◌≡◌, refl, Bool, true, false, List, [], ◌∷◌, ◌++◌, ltb, length}
+use Rattle.std.specs.Prelude.{◌≡◌, refl, false, List, [], ◌∷◌, ◌++◌, ltb, length}
 use Rattle.std.proofs.Common.{true≢false, arith, ltb-true}
-use Rattle.octets.specs.Pick.{pick, pick_ind}
+use Rattle.octets.specs.Pick.{pick_ind}
 use Rattle.unfold.specs.Unfold.{Row, Site, glyph, entered, masked, is_glyph}
 use Rattle.prune.specs.Bodies.{All, empty, one}
-use Rattle.turns.specs.Turns.{Few, turn_at_lem}
+use Rattle.turns.specs.Turns.{Few, of_kind, turn_at_lem}
 use Rattle.turns.specs.TurnLaws.{Sound, turn_sound, FewAfter, turn_few}
 use Rattle.turns.specs.declared.Counts.{Counts}
-use Rattle.turns.specs.declared.Turn.{Turn}
 use Rattle.turns.specs.declared.Turn.TheVariants.{Breaks, Returns, Ends, Goes, Masks, Calls}
+use Rattle.turns.specs.declared.Turn.{Turn}
+use Rattle.turns.specs.declared.Kind.{Kind}
+use Rattle.turns.specs.declared.Kind.TheVariants.{Local, Global}
 use Rattle.interpret.specs.Trace.{Trace, broken, returned, ended, meets, afterwards, site_for, body_for, turned, trace_walk, trace_body, enter_at, trace_call}
 use Rattle.interpret.specs.Rows.{Runs, own, in_local, in_global, RowMet, entering, masking, Proper, RowGood}
 
@@ -35,13 +37,13 @@ module _ (globals locals : List (List ℕ)) (fd g : ℕ) (code : List ℕ) where
   proper_after (ended rs) on p f = p
 
   -- a subroutine that is there
-  runs_for : (wide : Bool) (i : ℕ) → i < pick wide (length globals) (length locals) → R (site_for fd wide i) (body_for globals locals wide i)
-  runs_for true i h = in_global i h
-  runs_for false i h = in_local i h
+  runs_for : (kind : Kind) (i : ℕ) → i < of_kind kind (length locals) (length globals) → R (site_for fd kind i) (body_for globals locals kind i)
+  runs_for Local i h = in_local i h
+  runs_for Global i h = in_global i h
 
-  no_glyph : (wide : Bool) (i : ℕ) → is_glyph (site_for fd wide i) ≡ false
-  no_glyph true i = refl
-  no_glyph false i = refl
+  no_glyph : (kind : Kind) (i : ℕ) → is_glyph (site_for fd kind i) ≡ false
+  no_glyph Local i = refl
+  no_glyph Global i = refl
 
   module _ (enter : Site → List ℕ → Counts → Trace) (enters : (t : Site) (s : List ℕ) (x : Counts) → R t s → Few x → P (enter t s x))
       (site : Site) (s : List ℕ) (run : R site s) where
@@ -53,11 +55,11 @@ module _ (globals locals : List (List ℕ)) (fd g : ℕ) (code : List ℕ) where
     proper_turn on ons at (Goes n p x) k f = ons n p x f
     proper_turn on ons at (Masks len x) k f =
         proper_meets (masked site at len ∷ []) (on (at + 1 + len) (at + 1 + len) x) (one (masking at len run k.1 k.0) empty) (ons (at + 1 + len) (at + 1 + len) x f)
-    proper_turn on ons at (Calls wide i x) k f =
-        let r = runs_for wide i k in
-        let t = site_for fd wide i in
-        proper_meets (entered t ∷ []) (afterwards (enter t (body_for globals locals wide i) x) (on (at + 1) (at + 1))) (one (entering r (no_glyph wide i)) empty)
-        (proper_after (enter t (body_for globals locals wide i) x) (on (at + 1) (at + 1)) (enters t (body_for globals locals wide i) x r f) (λ y g. ons (at + 1) (at + 1) y g))
+    proper_turn on ons at (Calls kind i x) k f =
+        let r = runs_for kind i k in
+        let t = site_for fd kind i in
+        proper_meets (entered t ∷ []) (afterwards (enter t (body_for globals locals kind i) x) (on (at + 1) (at + 1))) (one (entering r (no_glyph kind i)) empty)
+        (proper_after (enter t (body_for globals locals kind i) x) (on (at + 1) (at + 1)) (enters t (body_for globals locals kind i) x r f) (λ y g. ons (at + 1) (at + 1) y g))
 
     proper_walk : (k at prev : ℕ) (x : Counts) → Few x → P (trace_walk globals locals fd enter k site s at prev x)
     unfolding trace_walk
@@ -73,15 +75,15 @@ module _ (globals locals : List (List ℕ)) (fd g : ℕ) (code : List ℕ) where
   proper_body zero site s x r f = proper_walk (λ t b y. broken) (λ t b y q h. tt) site s r (length s) 0 0 x f
   proper_body (suc d) site s x r f = proper_walk (trace_body globals locals fd d) (λ t b y q h. proper_body d t b y q h) site s r (length s) 0 0 x f
 
-  pub proper_call : (d : ℕ) (wide : Bool) (i : ℕ) (x : Counts) → i < pick wide (length globals) (length locals) → Few x → P (trace_call globals locals fd d wide i x)
+  pub proper_call : (d : ℕ) (kind : Kind) (i : ℕ) (x : Counts) → i < of_kind kind (length locals) (length globals) → Few x → P (trace_call globals locals fd d kind i x)
   unfolding enter_at
-  proper_call d wide i x h f =
-      proper_meets (entered (site_for fd wide i) ∷ []) (enter_at globals locals fd d (site_for fd wide i) (body_for globals locals wide i) x)
-      (one (entering (runs_for wide i h) (no_glyph wide i)) empty) (by d)
+  proper_call d kind i x h f =
+      proper_meets (entered (site_for fd kind i) ∷ []) (enter_at globals locals fd d (site_for fd kind i) (body_for globals locals kind i) x)
+      (one (entering (runs_for kind i h) (no_glyph kind i)) empty) (by d)
     where
-      by : (k : ℕ) → P (enter_at globals locals fd k (site_for fd wide i) (body_for globals locals wide i) x)
+      by : (k : ℕ) → P (enter_at globals locals fd k (site_for fd kind i) (body_for globals locals kind i) x)
       by zero = tt
-      by (suc k) = proper_body k (site_for fd wide i) (body_for globals locals wide i) x (runs_for wide i h) f
+      by (suc k) = proper_body k (site_for fd kind i) (body_for globals locals kind i) x (runs_for kind i h) f
 
   -- ---- what a row that is met says
 

@@ -1,5 +1,5 @@
 -- What running a body asks, and what it leaves: rows as keys, noted in a window of a range (crates/row_window), and the code's answers.
-use Rattle.std.specs.Prelude.{ℕ, ◌≤◌, ◌<◌, ◌≡◌, Bool, true, false, List, map, length}
+use Rattle.std.specs.Prelude.{ℕ, ◌≤◌, ◌<◌, ◌≡◌, Bool, true, false, List, map, length, Ok, Err, Result}
 use Rattle.index.specs.Index.{items_of}
 use Rattle.index.specs.Good.{Good}
 use Rattle.unfold.specs.Unfold.{Row, Glyph, not_plain_lem, plain}
@@ -10,17 +10,20 @@ use Rattle.row_window.specs.Filled.{Adds, Keeps}
 use Rattle.row_window.specs.declared.filling.Filling.{Filling}
 use Rattle.interpret.specs.Trace.{Trace, broken, returned, ended, trace_body, trace_call}
 use Rattle.turns.specs.declared.Counts.{Counts}
+use Rattle.turns.specs.declared.Kind.{Kind}
+use Rattle.turns.specs.declared.Kind.TheVariants as of
 use Rattle.interpret.specs.declared.Subrs.{Subrs}
 use Rattle.interpret.specs.declared.Range.{Range}
 use Rattle.unfold.specs.declared.Site.{Site}
 use Rattle.unfold.specs.declared.Site.TheVariants.{Local, Global}
-use Rattle.interpret.specs.declared.Ran.{Ran}
-use Rattle.interpret.specs.declared.Ran.TheVariants.{Broken, Returned, Ended}
+use Rattle.interpret.specs.declared.NotPlain.{NotPlain}
+use Rattle.interpret.specs.declared.End.{End}
+use Rattle.interpret.specs.declared.End.TheVariants.{Returned, Ended}
 
 -- the subroutine that a call enters
-abbrev pub site_in : ℕ → Bool → ℕ → Site
-site_in fd true i = Global i
-site_in fd false i = Local fd i
+abbrev pub site_in : ℕ → Kind → ℕ → Site
+site_in fd of.Local i = Local fd i
+site_in fd of.Global i = Global i
 
 -- the subroutines that a glyph can call
 abbrev pub globals_in : List ℕ → Subrs → List (List ℕ)
@@ -41,8 +44,8 @@ pub record Ready (font : List ℕ) (q : Subrs) : Type 0 where
 abbrev pub whole_of : List ℕ → Subrs → ℕ → Site → List ℕ → Counts → Trace
 whole_of font q depth site code x = trace_body (globals_in font q) (locals_in font q) q.fd depth (site_of site) code x
 
-abbrev pub call_of : List ℕ → Subrs → ℕ → Bool → ℕ → Counts → Trace
-call_of font q depth wide i x = trace_call (globals_in font q) (locals_in font q) q.fd depth wide i x
+abbrev pub call_of : List ℕ → Subrs → ℕ → Kind → ℕ → Counts → Trace
+call_of font q depth kind i x = trace_call (globals_in font q) (locals_in font q) q.fd depth kind i x
 
 -- the key of a row
 abbrev pub key_for : Row → ℕ
@@ -53,10 +56,13 @@ abbrev pub Notes : Range → List Row → Filling → Filling → Type 0
 Notes range rows old new = Adds (within range.low range.high (map key_for rows)) old new
 
 -- what a body's run answers, and what it leaves in the window; the lent keys stay whatever it answers
+abbrev pub Ran : Type 0
+Ran = Result End NotPlain
+
 abbrev pub Telling : Trace → Range → Filling → Filling → Ran → Type 0
-Telling broken range old new r = r ≡ Broken
-Telling (returned x rows) range old new r = (r ≡ Returned x) × Notes range rows old new
-Telling (ended rows) range old new r = (r ≡ Ended) × Notes range rows old new
+Telling broken range old new r = r ≡ Err (record {})
+Telling (returned x rows) range old new r = (r ≡ Ok (Returned x)) × Notes range rows old new
+Telling (ended rows) range old new r = (r ≡ Ok Ended) × Notes range rows old new
 
 pub record Tells (t : Trace) (range : Range) (old new : Filling) (r : Ran) : Type 0 where
   pub says : Telling t range old new r

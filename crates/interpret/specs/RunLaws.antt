@@ -1,6 +1,6 @@
 -- Laws of a body that is run turn by turn: the rows noted so far and what is left to run are the whole run.
 use Prim.Native.Nat.{ℕ, zero, suc, ◌+◌, ◌-◌, ◌≤◌, ◌<◌}
-use Rattle.std.specs.Prelude.{◌≡◌, Bool, true, false, List, [], ◌∷◌, ◌++◌, map, length}
+use Rattle.std.specs.Prelude.{◌≡◌, Bool, List, [], ◌∷◌, ◌++◌, map, length, Ok, Err}
 use Rattle.std.proofs.Math.Path.{refl, ap, subst}
 use Rattle.std.proofs.Common.{sym, ◌∙◌, append-nil, lt-ltb, le-ltb}
 use Rattle.std.proofs.lemmas.List.{map-append}
@@ -14,17 +14,22 @@ use Rattle.turns.specs.Turns.{turn_at_lem}
 use Rattle.turns.specs.TargetLaws.{zero_one}
 use Rattle.turns.specs.TurnLaws.{Sound, turn_sound}
 use Rattle.turns.specs.declared.Counts.{Counts}
-use Rattle.turns.specs.declared.Turn.{Turn}
 use Rattle.turns.specs.declared.Turn.TheVariants.{Breaks, Returns, Ends, Goes, Masks, Calls}
+use Rattle.turns.specs.declared.Turn.{Turn}
+use Rattle.turns.specs.declared.Kind.{Kind}
+use Rattle.turns.specs.declared.Kind.TheVariants.{Local, Global}
 use Rattle.interpret.specs.Trace.{Trace, broken, returned, ended, meets, afterwards, site_for, body_for, turned, trace_walk, trace_body, enter_at, trace_call}
 use Rattle.interpret.specs.TraceLaws.{meets-none, meets-both, meets-after}
 use Rattle.unfold.specs.Sites.{site_of}
-use Rattle.interpret.specs.Run.{site_in, globals_in, locals_in, key_for, Notes, Telling}
+use Rattle.interpret.specs.Run.{site_in, globals_in, locals_in, key_for, Notes, Ran, Telling}
 use Rattle.interpret.specs.declared.Subrs.{Subrs}
 use Rattle.interpret.specs.declared.Range.{Range}
 use Rattle.unfold.specs.declared.Site.{Site as Body}
-use Rattle.interpret.specs.declared.Ran.{Ran}
-use Rattle.interpret.specs.declared.Ran.TheVariants.{Broken, Returned, Ended}
+use Rattle.interpret.specs.declared.End.TheVariants.{Returned, Ended}
+
+-- what a run that is not plain answers
+abbrev pub nothing : Ran
+nothing = Err (record {})
 
 -- ---- rows noted one after the other
 
@@ -51,12 +56,12 @@ turn-told font q site own e s at prev x r f =
     ∙ ap (λ (t : Bool). turn_at_lem (length (locals_in font q)) (length (globals_in font q)) t s at prev x) e
 
 -- the body that a call enters
-pub site_as : (fd : ℕ) (wide : Bool) (i : ℕ) (t : Body) → t ≡ site_in fd wide i → site_of t ≡ site_for fd wide i
-site_as fd wide i t e = ap site_of e ∙ by wide
+pub site_as : (fd : ℕ) (kind : Kind) (i : ℕ) (t : Body) → t ≡ site_in fd kind i → site_of t ≡ site_for fd kind i
+site_as fd kind i t e = ap site_of e ∙ by kind
   where
-    by : (w : Bool) → site_of (site_in fd w i) ≡ site_for fd w i
-    by true = refl
-    by false = refl
+    by : (k : Kind) → site_of (site_in fd k i) ≡ site_for fd k i
+    by Local = refl
+    by Global = refl
 
 pub entered_as : (a b : Body) → a ≡ b → (k : ℕ) → k ≡ key_for (entered (site_of b)) → k ≡ key_for (entered (site_of a))
 entered_as a b e k f = f ∙ ap (λ (t : Body). key_for (entered (site_of t))) (sym e)
@@ -113,18 +118,18 @@ module _ (globals locals : List (List ℕ)) (fd d : ℕ) (site : Site) (s : List
     pub sound : (t : Turn) → r ≡ t → Sound (length locals) (length globals) s at t
     sound t f = subst (Sound (length locals) (length globals) s at) (sym e ∙ f) (turn_sound (length locals) (length globals) s at h (is_glyph site) prev x)
 
-    -- it breaks, returns, ends
-    pub going_breaks : r ≡ Breaks → Telling whole range old now Broken
-    going_breaks f = subst (λ (t : Trace). Telling t range old now Broken) (sym (whole_is Breaks f)) refl
+    -- it Breaks, returns, ends
+    pub going_breaks : r ≡ Breaks → Telling whole range old now nothing
+    going_breaks f = subst (λ (t : Trace). Telling t range old now nothing) (sym (whole_is Breaks f)) refl
 
     noted : Notes range (g.rows ++ []) old now
     noted = notes_as range g.noting (sym (append-nil g.rows))
 
-    pub going_returns : (y : Counts) → r ≡ Returns y → Telling whole range old now (Returned y)
-    going_returns y f = subst (λ (t : Trace). Telling t range old now (Returned y)) (sym (whole_is (Returns y) f)) (refl, noted)
+    pub going_returns : (y : Counts) → r ≡ Returns y → Telling whole range old now (Ok (Returned y))
+    going_returns y f = subst (λ (t : Trace). Telling t range old now (Ok (Returned y))) (sym (whole_is (Returns y) f)) (refl, noted)
 
-    pub going-ends : r ≡ Ends → Telling whole range old now Ended
-    going-ends f = subst (λ (t : Trace). Telling t range old now Ended) (sym (whole_is Ends f)) (refl, noted)
+    pub going-ends : r ≡ Ends → Telling whole range old now (Ok Ended)
+    going-ends f = subst (λ (t : Trace). Telling t range old now (Ok Ended)) (sym (whole_is Ends f)) (refl, noted)
 
     -- it goes on
     pub going_on : (m p : ℕ) (y : Counts) → r ≡ Goes m p y → Going whole range old now m p y
@@ -146,30 +151,30 @@ module _ (globals locals : List (List ℕ)) (fd d : ℕ) (site : Site) (s : List
         })
 
     -- a call, and how it ended
-    module _ (wide : Bool) (i : ℕ) (y : Counts) (f : r ≡ Calls wide i y) (new : Filling) (a : Ran)
-        (u : Telling (trace_call globals locals fd d wide i y) range now new a) where
+    module _ (kind : Kind) (i : ℕ) (y : Counts) (f : r ≡ Calls kind i y) (new : Filling) (a : Ran)
+        (u : Telling (trace_call globals locals fd d kind i y) range now new a) where
       abbrev called : Trace
-      called = trace_call globals locals fd d wide i y
+      called = trace_call globals locals fd d kind i y
 
       whole-calls : (v : Trace) → called ≡ v → whole ≡ meets g.rows (afterwards v (λ z. rest turn.0 (at + 1) (at + 1) z))
       whole-calls v j =
-          whole_is (Calls wide i y) f
-          ∙ ap (meets g.rows) (meets-after (entered (site_for fd wide i) ∷ []) (enter_at globals locals fd d (site_for fd wide i) (body_for globals locals wide i) y) (λ z. rest turn.0 (at + 1) (at + 1) z)
+          whole_is (Calls kind i y) f
+          ∙ ap (meets g.rows) (meets-after (entered (site_for fd kind i) ∷ []) (enter_at globals locals fd d (site_for fd kind i) (body_for globals locals kind i) y) (λ z. rest turn.0 (at + 1) (at + 1) z)
           ∙ ap (λ (t : Trace). afterwards t (λ z. rest turn.0 (at + 1) (at + 1) z)) j)
 
       told : (v : Trace) → called ≡ v → Telling v range now new a
       told v j = subst (λ (t : Trace). Telling t range now new a) j u
 
       -- it returned
-      pub going-returned : (z : Counts) → a ≡ Returned z → Going whole range old new (at + 1) (at + 1) z
+      pub going-returned : (z : Counts) → a ≡ Ok (Returned z) → Going whole range old new (at + 1) (at + 1) z
       going-returned z q = by called refl
         where
-          same : (v : Counts) → Returned v ≡ Returned z → v ≡ z
+          same : (v : Counts) → ◌≡◌ {A = Ran} (Ok (Returned v)) (Ok (Returned z)) → v ≡ z
           same v j = cc
 
           by : (v : Trace) → called ≡ v → Going whole range old new (at + 1) (at + 1) z
-          by broken j = let k : a ≡ Broken = told broken j in absurd (zero_one cc)
-          by (ended rs) j = let k : a ≡ Ended = (told (ended rs) j).0 in absurd (zero_one cc)
+          by broken j = let k : a ≡ nothing = told broken j in absurd (zero_one cc)
+          by (ended rs) j = let k : a ≡ Ok Ended = (told (ended rs) j).0 in absurd (zero_one cc)
           by (returned v rs) j =
               let k = told (returned v rs) j in
               let w = same v (sym k.0 ∙ q) in
@@ -183,31 +188,31 @@ module _ (globals locals : List (List ℕ)) (fd d : ℕ) (site : Site) (s : List
               }
 
       -- it ended all
-      pub going_ended : a ≡ Ended → Telling whole range old new Ended
+      pub going_ended : a ≡ Ok Ended → Telling whole range old new (Ok Ended)
       going_ended q = by called refl
         where
-          by : (v : Trace) → called ≡ v → Telling whole range old new Ended
-          by broken j = let k : a ≡ Broken = told broken j in absurd (zero_one cc)
-          by (returned v rs) j = let k : a ≡ Returned v = (told (returned v rs) j).0 in absurd (zero_one cc)
+          by : (v : Trace) → called ≡ v → Telling whole range old new (Ok Ended)
+          by broken j = let k : a ≡ nothing = told broken j in absurd (zero_one cc)
+          by (returned v rs) j = let k : a ≡ Ok (Returned v) = (told (returned v rs) j).0 in absurd (zero_one cc)
           by (ended rs) j =
-              subst (λ (c : Trace). Telling c range old new Ended) (sym (whole-calls (ended rs) j))
+              subst (λ (c : Trace). Telling c range old new (Ok Ended)) (sym (whole-calls (ended rs) j))
               (refl, notes_both range g.rows rs g.noting (told (ended rs) j).1)
 
       -- it broke
-      pub going_broken : a ≡ Broken → Telling whole range old new Broken
+      pub going_broken : a ≡ nothing → Telling whole range old new nothing
       going_broken q = by called refl
         where
-          by : (v : Trace) → called ≡ v → Telling whole range old new Broken
-          by broken j = subst (λ (c : Trace). Telling c range old new Broken) (sym (whole-calls broken j)) refl
-          by (returned v rs) j = let k : a ≡ Returned v = (told (returned v rs) j).0 in absurd (zero_one cc)
-          by (ended rs) j = let k : a ≡ Ended = (told (ended rs) j).0 in absurd (zero_one cc)
+          by : (v : Trace) → called ≡ v → Telling whole range old new nothing
+          by broken j = subst (λ (c : Trace). Telling c range old new nothing) (sym (whole-calls broken j)) refl
+          by (returned v rs) j = let k : a ≡ Ok (Returned v) = (told (returned v rs) j).0 in absurd (zero_one cc)
+          by (ended rs) j = let k : a ≡ Ok Ended = (told (ended rs) j).0 in absurd (zero_one cc)
 
   -- past the end
   pub going_off : (whole : Trace) (range : Range) (old now : Filling) (at prev : ℕ) (x : Counts)
-      → Going whole range old now at prev x → length s ≤ at → Telling whole range old now Broken
+      → Going whole range old now at prev x → length s ≤ at → Telling whole range old now nothing
   unfolding trace_walk
   going_off whole range old now at prev x g h =
-      subst (λ (t : Trace). Telling t range old now Broken) (sym (g.left ∙ ap (meets g.rows) (by g.fuel))) refl
+      subst (λ (t : Trace). Telling t range old now nothing) (sym (g.left ∙ ap (meets g.rows) (by g.fuel))) refl
     where
       by : (k : ℕ) → rest k at prev x ≡ broken
       by zero = refl
@@ -221,21 +226,21 @@ unfolding enter_at
 deeper globals locals fd zero t s x l = absurd (l refl)
 deeper globals locals fd (suc k) t s x l = let z : suc k - 1 ≡ k = omega arith in rw z
 
-module _ (globals locals : List (List ℕ)) (fd d : ℕ) (wide : Bool) (i : ℕ) (x : Counts) (range : Range) (old : Filling) where
+module _ (globals locals : List (List ℕ)) (fd d : ℕ) (kind : Kind) (i : ℕ) (x : Counts) (range : Range) (old : Filling) where
   abbrev which : Site
-  which = site_for fd wide i
+  which = site_for fd kind i
 
   abbrev body : List ℕ
-  body = body_for globals locals wide i
+  body = body_for globals locals kind i
 
   -- too deep
-  pub call_deep : d ≡ 0 → Telling (trace_call globals locals fd d wide i x) range old old Broken
+  pub call_deep : d ≡ 0 → Telling (trace_call globals locals fd d kind i x) range old old nothing
   unfolding enter_at
-  call_deep z = subst (λ (k : ℕ). Telling (trace_call globals locals fd k wide i x) range old old Broken) (sym z) refl
+  call_deep z = subst (λ (k : ℕ). Telling (trace_call globals locals fd k kind i x) range old old nothing) (sym z) refl
 
   -- its row, and then the subroutine's
   pub call_runs : (d ≡ 0 → ⊥) → (mid : Filling) → Notes range (entered which ∷ []) old mid → (new : Filling) (a : Ran)
-      → Telling (trace_body globals locals fd (d - 1) which body x) range mid new a → Telling (trace_call globals locals fd d wide i x) range old new a
+      → Telling (trace_body globals locals fd (d - 1) which body x) range mid new a → Telling (trace_call globals locals fd d kind i x) range old new a
   call_runs deep mid t new a u =
       subst (λ (c : Trace). Telling (meets (entered which ∷ []) c) range old new a) (sym (enters d deep)) (by (trace_body globals locals fd (d - 1) which body x) u)
     where

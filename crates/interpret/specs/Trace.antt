@@ -1,12 +1,14 @@
 -- A body run turn by turn (document 01, 'Plain glyphs'; crates/unfold), without the tokens that it leaves: how the run ends, and the rows that
 -- it meets as its answer.
-use Rattle.std.specs.Prelude.{ℕ, zero, suc, ◌+◌, Bool, true, false, List, [], ◌∷◌, ◌++◌, ltb, length, get_or}
+use Rattle.std.specs.Prelude.{ℕ, zero, suc, ◌+◌, List, [], ◌∷◌, ◌++◌, ltb, length, get_or}
 use Rattle.octets.specs.Pick.{pick}
 use Rattle.unfold.specs.Unfold.{Row, Site, local, global, entered, masked, is_glyph}
 use Rattle.turns.specs.Turns.{turn_at_lem}
 use Rattle.turns.specs.declared.Counts.{Counts}
-use Rattle.turns.specs.declared.Turn.{Turn}
 use Rattle.turns.specs.declared.Turn.TheVariants.{Breaks, Returns, Ends, Goes, Masks, Calls}
+use Rattle.turns.specs.declared.Turn.{Turn}
+use Rattle.turns.specs.declared.Kind.{Kind}
+use Rattle.turns.specs.declared.Kind.TheVariants.{Local, Global}
 
 -- how a body's run ends: in what is not plain, by return, or by endchar; and the rows that it met
 pub data Trace : Type 0 where
@@ -34,13 +36,13 @@ abbrev On : Type 0
 On = ℕ → ℕ → Counts → Trace
 
 -- the subroutine that a call enters, and its bytes
-abbrev pub site_for : ℕ → Bool → ℕ → Site
-site_for fd true i = global i
-site_for fd false i = local fd i
+abbrev pub site_for : ℕ → Kind → ℕ → Site
+site_for fd Local i = local fd i
+site_for fd Global i = global i
 
-abbrev pub body_for : List (List ℕ) → List (List ℕ) → Bool → ℕ → List ℕ
-body_for globals locals true i = get_or globals i []
-body_for globals locals false i = get_or locals i []
+abbrev pub body_for : List (List ℕ) → List (List ℕ) → Kind → ℕ → List ℕ
+body_for globals locals Local i = get_or locals i []
+body_for globals locals Global i = get_or globals i []
 
 module _ (globals locals : List (List ℕ)) (fd : ℕ) where
   -- what a turn leads to
@@ -50,8 +52,8 @@ module _ (globals locals : List (List ℕ)) (fd : ℕ) where
   turned enter on site at Ends = ended []
   turned enter on site at (Goes n p x) = on n p x
   turned enter on site at (Masks len x) = meets (masked site at len ∷ []) (on (at + 1 + len) (at + 1 + len) x)
-  turned enter on site at (Calls wide i x) =
-      meets (entered (site_for fd wide i) ∷ []) (afterwards (enter (site_for fd wide i) (body_for globals locals wide i) x) (on (at + 1) (at + 1)))
+  turned enter on site at (Calls kind i x) =
+      meets (entered (site_for fd kind i) ∷ []) (afterwards (enter (site_for fd kind i) (body_for globals locals kind i) x) (on (at + 1) (at + 1)))
 
   -- a body from a place on, k tokens at most; running off its end is not plain
   unfoldable pub trace_walk : Enter → ℕ → Site → List ℕ → ℕ → ℕ → Counts → Trace
@@ -70,8 +72,8 @@ module _ (globals locals : List (List ℕ)) (fd : ℕ) where
   enter_at zero t s x = broken
   enter_at (suc d) t s x = trace_body d t s x
 
-  abbrev pub trace_call : ℕ → Bool → ℕ → Counts → Trace
-  trace_call d wide i x = meets (entered (site_for fd wide i) ∷ []) (enter_at d (site_for fd wide i) (body_for globals locals wide i) x)
+  abbrev pub trace_call : ℕ → Kind → ℕ → Counts → Trace
+  trace_call d kind i x = meets (entered (site_for fd kind i) ∷ []) (enter_at d (site_for fd kind i) (body_for globals locals kind i) x)
 
 abbrev pub fresh : Counts
 fresh = record { args = 0; stems = 0; spent = 0 }

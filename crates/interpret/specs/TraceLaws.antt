@@ -1,4 +1,4 @@
--- A run turn by turn is the unfolding's, but for the tokens: it breaks where that does, and meets the same rows.
+-- A run turn by turn is the unfolding's, but for the tokens: it Breaks where that does, and meets the same rows.
 use Prim.Native.Nat.{ℕ, zero, suc, ◌+◌, ◌-◌, ◌/◌, ◌<◌}
 use Rattle.std.specs.Prelude.{◌≡◌, Bool, List, [], ◌∷◌, ◌++◌, eqb, ℤ, length, take, drop, get_or, None, Option, Some}
 use Rattle.std.proofs.Math.Path.{refl}
@@ -8,13 +8,16 @@ use Rattle.std.proofs.Math.Dec.{ltb}
 use Rattle.octets.specs.Pick.{pick}
 use Rattle.type2_number.specs.Number.{Read, cut, operator, number as a_number, number_at}
 use Rattle.type2_number.specs.NumberLaws.{Further, further}
+use Rattle.charstring.specs.Bias.{last_of, last_at}
 use Rattle.charstring.specs.Token.{is_mask}
 use Rattle.unfold.specs.Unfold.{Tok, num, op, esc, mask, Row, Site, local, global, entered, masked, is_glyph, State, Run, broken as broke, returned as back, ended as done, leave, calling, target_of, after, is_stem, is_path, meeting, call_to, stem_at, mask_at, escape_at, operator_at, step_at, walk, run_body}
-use Rattle.turns.specs.Turns.{last_of, last_at, leaves, call_turn, mask_turn, stem_turn, escape_turn, clearing_turn_lem, operator_turn_lem, turn_by}
+use Rattle.turns.specs.Turns.{leaves, call_turn, mask_turn, stem_turn, escape_turn, clearing_turn_lem, operator_turn_lem, turn_by}
 use Rattle.turns.specs.TargetLaws.{zero_one}
 use Rattle.turns.specs.declared.Counts.{Counts}
 use Rattle.turns.specs.declared.Turn.{Turn}
 use Rattle.turns.specs.declared.Turn.TheVariants.{Breaks, Returns, Ends, Goes, Masks, Calls}
+use Rattle.turns.specs.declared.Kind.{Kind}
+use Rattle.turns.specs.declared.Kind.TheVariants.{Local, Global}
 use Rattle.interpret.specs.Trace.{Trace, broken, returned, ended, meets, afterwards, site_for, body_for, turned, trace_walk, trace_body}
 
 -- the counts of a state
@@ -97,20 +100,20 @@ module _ (globals locals : List (List ℕ)) (fd : ℕ) (enter : Site → List �
     after_as m (done y) (returned x rs) e = absurd (zero_one cc)
     after_as m (done y) (ended rs) e = e
 
-    calls_as : (wide : Bool) (i : ℕ) → tell (after (enter (site_for fd wide i) (body_for globals locals wide i) (calling (site_for fd wide i) st)) (on (at + 1) None))
-        ≡ T (Calls wide i (lean (calling (site_for fd wide i) st)))
-    calls_as wide i =
-        let which = site_for fd wide i in
-        after_as (st.met ++ (entered which ∷ [])) (enter which (body_for globals locals wide i) (calling which st)) (enter' which (body_for globals locals wide i) (lean (calling which st))) (enters which (body_for globals locals wide i) (calling which st))
-        ∙ sym (meets-both st.met (entered which ∷ []) (afterwards (enter' which (body_for globals locals wide i) (lean (calling which st))) (on' (at + 1) (at + 1))))
+    calls_as : (kind : Kind) (i : ℕ) → tell (after (enter (site_for fd kind i) (body_for globals locals kind i) (calling (site_for fd kind i) st)) (on (at + 1) None))
+        ≡ T (Calls kind i (lean (calling (site_for fd kind i) st)))
+    calls_as kind i =
+        let which = site_for fd kind i in
+        after_as (st.met ++ (entered which ∷ [])) (enter which (body_for globals locals kind i) (calling which st)) (enter' which (body_for globals locals kind i) (lean (calling which st))) (enters which (body_for globals locals kind i) (calling which st))
+        ∙ sym (meets-both st.met (entered which ∷ []) (afterwards (enter' which (body_for globals locals kind i) (lean (calling which st))) (on' (at + 1) (at + 1))))
 
-    local_as : (q : Option ℕ) → tell (call_to enter on (local fd) locals (at + 1) st q) ≡ T (call_turn false (lean st) q)
+    local_as : (q : Option ℕ) → tell (call_to enter on (local fd) locals (at + 1) st q) ≡ T (call_turn Local (lean st) q)
     local_as None = refl
-    local_as (Some i) = calls_as false i
+    local_as (Some i) = calls_as Local i
 
-    global_as : (q : Option ℕ) → tell (call_to enter on global globals (at + 1) st q) ≡ T (call_turn true (lean st) q)
+    global_as : (q : Option ℕ) → tell (call_to enter on global globals (at + 1) st q) ≡ T (call_turn Global (lean st) q)
     global_as None = refl
-    global_as (Some i) = calls_as true i
+    global_as (Some i) = calls_as Global i
 
     mask_as : (b n : ℕ) → tell (mask_at on site s b at n st) ≡ T (mask_turn s at n st.spent)
     mask_as b n =

@@ -6,9 +6,9 @@ pub mod callees;
 pub mod mask;
 
 ghost use Rattle.std.specs.Prelude.{◌≡◌, [], ◌∷◌, ◌≤◌, ◌<◌, length};
-ghost use Rattle.octets.specs.Pick.{pick};
 ghost use Rattle.unfold.specs.Unfold.{entered, masked, is_glyph, unfold_glyph};
 ghost use Rattle.row_window.specs.Key.{key_of_lem};
+ghost use Rattle.turns.specs.Turns.{of_kind};
 ghost use Rattle.interpret.specs.Trace.{body_for};
 ghost use Rattle.unfold.specs.Sites.{site_of};
 ghost use Rattle.interpret.specs.Run.{site_in, globals_in, locals_in, whole_of, call_of, key_for, Notes, Tells, Meets};
@@ -17,7 +17,7 @@ use crate::callees::Callees;
 use crate::mask::Mask;
 use index::Index;
 use row_window::filling::Filling;
-use turns::{Counts, Turn, turn_at};
+use turns::{Counts, Kind, Turn, turn_at};
 use unfold::Site;
 
 // The subroutines that a glyph can call: the global ones, and the local ones of its FD.
@@ -35,11 +35,14 @@ pub struct Range {
     pub high: u64,
 }
 
-// How a body's run ends: in what is not plain, by return with the counts then, or by endchar.
-// (It stays an enum: endchar ends the glyph as it should, and is neither the failure of a Result nor an Option's None.)
+// A body does what no plain glyph does.
+#[derive(Clone, Copy, PartialEq, Eq)]
+pub struct NotPlain;
+
+// How a body's run ends where it is plain: by return with the counts then, or by endchar.
+// (It stays an enum: endchar ends the glyph as it should, and is no Option's None.)
 #[derive(Clone, Copy)]
-pub enum Ran {
-    Broken,
+pub enum End {
     Returned(Counts),
     Ended,
 }
@@ -104,24 +107,24 @@ fn note_mask(site: Site, offset: u32, len: u8, range: Range, filling: &mut Filli
 }
 
 // The subroutine that a call enters.
-fn site_for(fd: u8, global: bool, number: u16) -> Site
-    ensures { result ≡ site_in fd global number }
+fn site_for(fd: u8, kind: Kind, number: u16) -> Site
+    ensures { result ≡ site_in fd kind number }
 {
-    if global {
-        return Site::Global(number);
+    match kind {
+        Kind::Local => Site::Local { fd, number },
+        Kind::Global => Site::Global(number),
     }
-    Site::Local { fd, number }
 }
 
 // Its bytes: a part of the font.
-fn subr<'a>(from: &Callees<'a>, global: bool, number: usize) -> &'a [u8]
-    requires { number < pick global from.now.q.globals.count from.now.q.locals.count }
-    ensures { result.now ≡ body_for (globals_in from.now.font.now from.now.q) (locals_in from.now.font.now from.now.q) global number }
+fn subr<'a>(from: &Callees<'a>, kind: Kind, number: usize) -> &'a [u8]
+    requires { number < of_kind kind from.now.q.locals.count from.now.q.globals.count }
+    ensures { result.now ≡ body_for (globals_in from.now.font.now from.now.q) (locals_in from.now.font.now from.now.q) kind number }
 {
-    if global {
-        return index::item(from.font, from.q.globals, number);
+    match kind {
+        Kind::Local => index::item(from.font, from.q.locals, number),
+        Kind::Global => index::item(from.font, from.q.globals, number),
     }
-    index::item(from.font, from.q.locals, number)
 }
 
 // A subroutine entered: noted, and run one call deeper, where that is not too deep.
@@ -129,21 +132,21 @@ fn subr<'a>(from: &Callees<'a>, global: bool, number: usize) -> &'a [u8]
 fn enter(
     from: &Callees<'_>,
     depth: usize,
-    global: bool,
+    kind: Kind,
     number: usize,
     x: Counts,
     range: Range,
     filling: &mut Filling<'_>,
-) -> Ran
-    requires { number < pick global from.now.q.globals.count from.now.q.locals.count }
-    ensures { Tells (call_of from.now.font.now from.now.q depth global number x) range filling.old filling.new result }
+) -> Result<End, NotPlain>
+    requires { number < of_kind kind from.now.q.locals.count from.now.q.globals.count }
+    ensures { Tells (call_of from.now.font.now from.now.q depth kind number x) range filling.old filling.new result }
 {
     if depth == 0 {
-        return Ran::Broken;
+        return Err(NotPlain);
     }
-    let site = site_for(from.q.fd, global, number as u16);
+    let site = site_for(from.q.fd, kind, number as u16);
     note_entered(site, range, filling);
-    let body = subr(from, global, number);
+    let body = subr(from, kind, number);
     run_body(from, depth - 1, site, body, x, range, filling)
 }
 
@@ -157,7 +160,7 @@ fn run_body(
     start: Counts,
     range: Range,
     filling: &mut Filling<'_>,
-) -> Ran
+) -> Result<End, NotPlain>
     requires { length code.now ≤ 67108864 }
     ensures { Tells (whole_of from.now.font.now from.now.q depth site code.now start) range filling.old filling.new result }
 {
@@ -169,34 +172,35 @@ fn run_body(
     let mut x = start;
     while at < code.len() {
         match turn_at(code, at, prev, x, locals.count, globals.count, own) {
-            Turn::Breaks => return Ran::Broken,
-            Turn::Returns(counts) => return Ran::Returned(counts),
-            Turn::Ends => return Ran::Ended,
-            Turn::Goes(next, last, counts) => {
-                x = counts;
+            Turn::Breaks => return Err(NotPlain),
+            Turn::Returns(counts) => return Ok(End::Returned(counts)),
+            Turn::Ends => return Ok(End::Ended),
+            Turn::Goes { next, last, after } => {
+                x = after;
                 prev = last;
                 at = next;
             }
-            Turn::Masks(len, counts) => {
+            Turn::Masks { len, after } => {
                 note_mask(site, at as u32, len as u8, range, filling);
-                x = counts;
+                x = after;
                 at = at + 1 + len;
                 prev = at;
             }
-            Turn::Calls(global, number, counts) => {
-                match enter(from, depth, global, number, counts, range, filling) {
-                    Ran::Broken => return Ran::Broken,
-                    Ran::Ended => return Ran::Ended,
-                    Ran::Returned(after) => {
-                        x = after;
-                        at += 1;
-                        prev = at;
-                    }
+            Turn::Calls {
+                kind,
+                number,
+                after,
+            } => match enter(from, depth, kind, number, after, range, filling)? {
+                End::Ended => return Ok(End::Ended),
+                End::Returned(then) => {
+                    x = then;
+                    at += 1;
+                    prev = at;
                 }
-            }
+            },
         }
     }
-    Ran::Broken
+    Err(NotPlain)
 }
 
 // A glyph, by the subroutines of its FD, run from its charstring: whether it is plain, and then the rows that it meets are noted in the window; where
@@ -221,8 +225,8 @@ pub fn run_glyph(
         spent: 0,
     };
     match run_body(from, 10, Site::Glyph(g), code, fresh, range, filling) {
-        Ran::Broken => false,
-        Ran::Returned(_) => false,
-        Ran::Ended => true,
+        Ok(End::Ended) => true,
+        Ok(End::Returned(_)) => false,
+        Err(_) => false,
     }
 }

@@ -1,5 +1,5 @@
 -- Laws of a part: the rows of a body from an offset on, as many as a window holds, give what the whole record gives up to the last of their offsets.
-use Rattle.std.specs.Prelude.{ℕ, ◌+◌, ◌-◌, ◌*◌, ◌/◌, ◌%◌, ◌≤◌, ◌<◌, ◌≡◌, refl, Bool, true, false, List, [], ◌∷◌, ◌++◌, map, length, take, get_or}
+use Rattle.std.specs.Prelude.{ℕ, ◌+◌, ◌-◌, ◌*◌, ◌/◌, ◌%◌, ◌≤◌, ◌<◌, ◌≡◌, refl, Bool, true, false, List, ◌++◌, map, length, take, get_or}
 use Rattle.std.proofs.Common.{sym, ap, ◌∙◌, subst, arith, lt-ltb, le-ltb, length-take-le, get_or-take}
 use Rattle.std.proofs.lemmas.Bool.{false≢true}
 use Rattle.octets.specs.Pick.{pick}
@@ -7,7 +7,7 @@ use Rattle.octets.specs.PickLaws.{not_true}
 use Rattle.octets.specs.Octets.{Octets, Wrote}
 use Rattle.octets.specs.PutLaws.{wrote-length}
 use Rattle.unfold.specs.Unfold.{Row, Site, masked}
-use Rattle.record.specs.Record.{rows_of, rows_from, lists, given_in, two_lengths_lem}
+use Rattle.record.specs.Record.{rows_of, lists, given_in, two_lengths_lem}
 use Rattle.subset.specs.Kept.{is_in}
 use Rattle.unfold.specs.Sites.{site_of}
 use Rattle.reach.specs.Reach.{rises}
@@ -15,21 +15,16 @@ use Rattle.reach.specs.RowLaws.{all_fit}
 use Rattle.reach.specs.Cases.{by_order}
 use Rattle.unfold.specs.declared.Site as code
 use Rattle.unfold.specs.declared.Site.TheVariants.{Glyph, Local, Global}
-use Rattle.row_window.specs.Window.{within, Below, none, one, Gathers}
+use Rattle.row_window.specs.Window.{within, Below, Gathers}
 use Rattle.row_window.specs.MergeLaws.{gathers-few}
 use Rattle.row_window.specs.NextLaws.{window-whole, window-next, front-inside}
-use Rattle.mask_rows.specs.MaskRows.{no_key, keys_in, row_for, rows_bytes, room_in, HasRoom}
+use Rattle.mask_rows.specs.MaskRows.{keys_end, keys_in, row_for, rows_bytes, room_in, HasRoom}
 use Rattle.mask_rows.specs.KeyLaws.{mask, in_both, keys_list, lists-none, rows-length, rows-rise}
-use Rattle.mask_rows.specs.FillLaws.{rows_fit, window-below, rows_written}
+use Rattle.mask_rows.specs.FillLaws.{rows_fit, below_more, window-below, rows_written}
 use Rattle.mask_rows.specs.SameLaws.{given-alike, two_back}
-use Rattle.long_bodies.specs.Offsets.{body_in, keys_to, end_of, no_part, Sited, Gives}
+use Rattle.long_bodies.specs.Offsets.{body_in, keys_to, end_of, Sited, Gives}
 use Rattle.long_bodies.specs.TwoLaws.{in_at, in_to, site_mask, listed}
 use Rattle.long_bodies.specs.declared.offsets.Body.{Body}
-use Rattle.long_bodies.specs.declared.offsets.Part.{Part}
-
-below_more : (a b : ℕ) → a ≤ b → (l : List ℕ) → Below a l → Below b l
-below_more a b h [] none = none
-below_more a b h (x ∷ l) (one q p) = one {x = x} (omega arith) (below_more a b h l p)
 
 module _ (rec : List ℕ) (octets : Octets rec) (b : Body) (kind_fits : b.kind < 256) (fd_fits : b.fd < 256) (few : b.number < 65535) (site : Site)
     (is : (offset len : ℕ) → masked site offset len ≡ mask b.kind b.fd b.number offset len) (once : two_lengths_lem (rows_of rec) site ≡ false)
@@ -47,8 +42,8 @@ module _ (rec : List ℕ) (octets : Octets rec) (b : Body) (kind_fits : b.kind <
   abbrev key : ℕ → ℕ → ℕ
   key o l = (b.number * 4294967296 + o) * 65536 + l
 
-  below : Below no_key (take n keys)
-  below = below_more high no_key (omega arith) (take n keys) (window-below low high (keys_in b.kind b.fd rec) old keys n g)
+  below : Below keys_end (take n keys)
+  below = below_more high keys_end (omega arith) (take n keys) (window-below low high (keys_in b.kind b.fd rec) old keys n g)
 
   -- ---- a full window
 
@@ -184,22 +179,14 @@ module _ (rec : List ℕ) (octets : Octets rec) (s : code.Site) (once : two_leng
   fill_end end is-end = omega (arith, is-end, near, end_near rec octets b kind_fits fd_fits few (site_of s) is once offset to past near old keys n g lent.some)
 
   -- THE LAW of filling
-  pub fill_gives : (end : ℕ) → end ≡ end_of keys n to → (span : ℕ) (bytes : List ℕ) (len : ℕ) → Wrote was 0 (rows_bytes b.kind b.fd (take n keys)) bytes len
-      → Gives rec bytes s (record { from = offset; end = end; len = len; span = span }) × (offset ≤ offset) × (offset < end)
-  fill_gives end is-end span bytes len w = (
+  pub fill_gives : (end : ℕ) → end ≡ end_of keys n to → (ahead : offset < end) (close : end ≤ 4294967296) (bytes : List ℕ) (len : ℕ) → Wrote was 0 (rows_bytes b.kind b.fd (take n keys)) bytes len
+      → Gives rec bytes s (record { from = offset; end = end; len = len; some = ahead; near = close }) × (offset ≤ offset) × (offset < end)
+  fill_gives end is-end ahead close bytes len w = (
     record {
       fits = part-fits rec octets b kind_fits fd_fits few (site_of s) is once offset to past near old keys n g lent.some was bytes lent.room len w;
       rising = part-rises rec octets b kind_fits fd_fits few (site_of s) is once offset to past near old keys n g lent.some was bytes lent.room len w;
       same = λ o from up. part_same rec octets b kind_fits fd_fits few (site_of s) is once offset to past near old keys n g lent.some was bytes lent.room len w o from (omega (arith, is-end));
     },
     omega arith,
-    fill_past end is-end,
+    ahead,
   )
-
--- the part that has no offset
-pub gives_none : (rec bytes : List ℕ) (s : code.Site) (span : ℕ) → Gives rec bytes s (record { from = 0; end = 0; len = 0; span = span })
-unfolding rows_of rows_from rises
-gives_none rec bytes s span = record { fits = omega arith; rising = refl; same = λ o from to. absurd (omega arith) }
-
-pub gives-first : (rec bytes : List ℕ) (s : code.Site) (w : Part) → w ≡ no_part → Gives rec bytes s w
-gives-first rec bytes s w e = subst (Gives rec bytes s) (sym e) (gives_none rec bytes s 32768)

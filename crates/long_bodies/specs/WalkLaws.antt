@@ -13,19 +13,11 @@ use Rattle.record.specs.Record.{rows_of, given_in, two_lengths_lem}
 use Rattle.prune.specs.Renumber.{Calls, renumber_charstring}
 use Rattle.subset.specs.Pruned.{renumbered_body}
 use Rattle.unfold.specs.Sites.{site_of}
-use Rattle.reach.specs.Reach.{rises}
 use Rattle.unfold.specs.declared.Site as code
-use Rattle.renumber.specs.Turn.{turned_at, Inputs, is_yes}
-use Rattle.renumber.specs.declared.Ranks.{Ranks}
+use Rattle.renumber.specs.Turn.{turned_at, is_yes}
 use Rattle.renumber.specs.declared.Turned.{Turned}
 use Rattle.long_bodies.specs.Offsets.{Gives}
-use Rattle.long_bodies.specs.declared.offsets.Part.{Part}
-
--- what is asked of a part, which is shown as a record
-pub part_inputs : {rec bytes s ws shown : List ℕ} {locals globals : Ranks} {site : code.Site} {w : Part} {rising : Bool} → Inputs s ws locals globals (rows_of rec) rising site
-    → Gives rec bytes site w → shown ≡ take w.len bytes → Inputs s ws locals globals (rows_of shown) true site
-part_inputs i g e =
-    record { local_ranks = i.local_ranks; global_ranks = i.global_ranks; order = λ z. ap (λ (l : List ℕ). rises (rows_of l)) e ∙ g.rising; size = i.size }
+use Rattle.long_bodies.specs.declared.part.Part.{Part}
 
 -- THE LAW of a part: the token at its offset
 pub turned-alike : {rec bytes shown : List ℕ} {site : code.Site} {w : Part} → Gives rec bytes site w → shown ≡ take w.len bytes → (calls : Calls) (h : Option ℤ) (s : List ℕ) (c : Cursor) (offset : ℕ)

@@ -1,5 +1,7 @@
 -- Laws of keys: a record lists a row of a mask exactly where its key is among the record's; the ten bytes of keys that rise are a record of their rows, which rises.
-use Rattle.std.specs.Prelude.{ℕ, ◌+◌, ◌*◌, ◌/◌, ◌%◌, ◌≤◌, ◌<◌, ◌≡◌, Bool, drop}
+use Rattle.std.specs.Prelude.{ℕ, ◌+◌, ◌*◌, ◌/◌, ◌%◌, ◌≤◌, ◌<◌, ◌≡◌, Bool, drop, None, Some, Option}
+use Rattle.std.specs.List.{filter_map, cons_option}
+use Rattle.std.proofs.lemmas.Bool.{false≢true}
 use Rattle.std.proofs.Math.Path.{refl, sym, ap}
 use Rattle.std.proofs.Common.{◌∙◌, arith, drop-drop, drop_at}
 use Rattle.std.proofs.Math.Bool.{true, false}
@@ -20,7 +22,7 @@ use Rattle.reach.specs.RowLaws.{AllFit}
 use Rattle.reach.specs.Cases.{by_number}
 use Rattle.row_window.specs.Window.{placed, gathered, within, Below, Rising, none, one}
 use Rattle.row_window.specs.KeyLaws.{bytes-split}
-use Rattle.mask_rows.specs.MaskRows.{key_for, no_key, key_in, row_for, row_bytes, rows_bytes}
+use Rattle.mask_rows.specs.MaskRows.{key_for, keys_end, key_in, row_for, row_bytes, rows_bytes}
 use Rattle.mask_rows.specs.SameLaws.{and_left, and_right, same_truth, together}
 
 -- the row of a mask
@@ -99,6 +101,16 @@ module _ (k : ℕ) where
         by false true e i = let n : eqb x k ≡ false = ne_eqb x k (λ z. absurd (omega (arith, z, ltb-false x low e))) in rw n i
         by false false e i = i
 
+  -- a row's key, if it has one
+  abbrev is_key : Option ℕ → Bool
+  is_key None = false
+  is_key (Some x) = eqb x k
+
+  in_option : (o : Option ℕ) (ks : List ℕ) → is_in k (cons_option o ks) ≡ pick (is_key o) true (is_in k ks)
+  unfolding is_in
+  in_option None ks = refl
+  in_option (Some x) ks = refl
+
 -- ---- rows and their keys
 
 same-fields : (r q : Row) → same_row_lem r q ≡ true → (r.kind ≡ q.kind) × (r.fd ≡ q.fd) × (r.number ≡ q.number) × (r.offset ≡ q.offset) × (r.len ≡ q.len)
@@ -117,16 +129,16 @@ module _ (kind fd k offset len : ℕ) (few : k < 65535) (near : offset < 4294967
   q = mask kind fd k offset len
 
   -- a row is the mask's where its key is
-  row-key : (r : Row) → Fits r → same_row_lem r q ≡ eqb (key_in kind fd r) (key_for q)
-  row-key r f = same_truth (same_row_lem r q) (eqb (key_in kind fd r) (key_for q)) forth back
+  row-key : (r : Row) → Fits r → same_row_lem r q ≡ is_key (key_for q) (key_in kind fd r)
+  row-key r f = same_truth (same_row_lem r q) (is_key (key_for q) (key_in kind fd r)) forth back
     where
-      forth : same_row_lem r q ≡ true → eqb (key_in kind fd r) (key_for q) ≡ true
+      forth : same_row_lem r q ≡ true → is_key (key_for q) (key_in kind fd r) ≡ true
       forth e =
           let s = same-fields r q e in
           rw (eq-eqb r.kind kind s.0, eq-eqb r.fd fd s.1) (eq-eqb (key_for r) (key_for q) (rw (s.2, s.3, s.4)))
 
-      other : no_key ≡ key_for q → ⊥
-      other e = omega (arith, e)
+      other : is_key (key_for q) (key_in kind fd r) ≡ true → key_in kind fd r ≡ None → ⊥
+      other e n = false≢true (ap (is_key (key_for q)) (sym n) ∙ e)
 
       fields : key_for r ≡ key_for q → r.kind ≡ kind → r.fd ≡ fd → same_row_lem r q ≡ true
       fields e a b =
@@ -134,21 +146,22 @@ module _ (kind fd k offset len : ℕ) (few : k < 65535) (near : offset < 4294967
           let y = two_digits 4294967296 r.number r.offset k offset f.offset near x.0 in
           row_same r q a b y.0 y.1 x.1
 
-      back : eqb (key_in kind fd r) (key_for q) ≡ true → same_row_lem r q ≡ true
+      back : is_key (key_for q) (key_in kind fd r) ≡ true → same_row_lem r q ≡ true
       back e =
-          let g = eqb-true (key_in kind fd r) (key_for q) e in
           by_number r.kind kind
           (λ a. by_number r.fd fd
-          (λ b. fields (sym (rw (eq-eqb r.kind kind a, eq-eqb r.fd fd b)) ∙ g) a b)
-          (λ b. absurd (other (sym (rw (eq-eqb r.kind kind a, ne_eqb r.fd fd b)) ∙ g))))
-          (λ a. absurd (other (sym (rw (ne_eqb r.kind kind a)) ∙ g)))
+          (λ b. let s : key_in kind fd r ≡ Some (key_for r) = rw (eq-eqb r.kind kind a, eq-eqb r.fd fd b) in
+          fields (eqb-true (key_for r) (key_for q) (ap (is_key (key_for q)) (sym s) ∙ e)) a b)
+          (λ b. absurd (other e (rw (eq-eqb r.kind kind a, ne_eqb r.fd fd b)))))
+          (λ a. absurd (other e (rw (ne_eqb r.kind kind a))))
 
   -- THE LAW of keys
-  pub lists-key : (rows : List Row) → AllFit rows → lists rows q ≡ is_in (key_for q) (map (key_in kind fd) rows)
+  pub lists-key : (rows : List Row) → AllFit rows → lists rows q ≡ is_in (key_for q) (filter_map (key_in kind fd) rows)
   unfolding AllFit lists is_in
   lists-key [] a = refl
   lists-key (r ∷ rs) a =
-      ap (λ (t : Bool). pick t true (lists rs q)) (row-key r a.0) ∙ ap (λ (t : Bool). pick (eqb (key_in kind fd r) (key_for q)) true t) (lists-key rs a.1)
+      ap (λ (t : Bool). pick t true (lists rs q)) (row-key r a.0) ∙ ap (λ (t : Bool). pick (is_key (key_for q) (key_in kind fd r)) true t) (lists-key rs a.1)
+      ∙ sym (in_option (key_for q) (key_in kind fd r) (filter_map (key_in kind fd) rs))
 
   -- the row of a key
   key_row : (x : ℕ) → same_row_lem (row_for kind fd x) q ≡ eqb x (key_for q)
@@ -200,7 +213,7 @@ module _ (kind fd : ℕ) (hk : kind < 256) (hf : fd < 256) where
   two : bytes_of 2 (kind * 256 + fd) ≡ kind ∷ fd ∷ []
   two = bytes-split 1 1 kind fd hf ∙ ap (λ (l : List ℕ). l ++ bytes_of 1 fd) (one_byte kind hk) ∙ ap (λ (l : List ℕ). kind ∷ l) (one_byte fd hf)
 
-  module _ (k : ℕ) (h : k < no_key) where
+  module _ (k : ℕ) (h : k < keys_end) where
     -- by its fields
     row-fields : row_bytes kind fd k ≡ kind ∷ fd ∷ (bytes_of 2 (k / 281474976710656) ++ (bytes_of 4 (k / 65536 % 4294967296) ++ bytes_of 2 (k % 65536)))
     row-fields =
@@ -232,7 +245,7 @@ module _ (kind fd : ℕ) (hk : kind < 256) (hf : fd < 256) where
         let el : num_at b 8 2 ≡ len = num-written b 8 2 len rest (omega arith) eight in
         ap (λ (x : List ℕ). row_of (x ++ rest)) row-fields ∙ rw (en, eo, el)
 
-  rows-from : (ks : List ℕ) → Below no_key ks → rows_from (length ks) (rows_bytes kind fd ks) ≡ map (row_for kind fd) ks
+  rows-from : (ks : List ℕ) → Below keys_end ks → rows_from (length ks) (rows_bytes kind fd ks) ≡ map (row_for kind fd) ks
   unfolding rows_from rows_bytes
   rows-from [] none = refl
   rows-from (k ∷ ks) (one h b) =
@@ -242,7 +255,7 @@ module _ (kind fd : ℕ) (hk : kind < 256) (hf : fd < 256) where
       ∙ ap (λ (l : List Row). row_for kind fd k ∷ l) (rows-from ks b)
 
   -- THE LAW of the bytes: they are a record of the keys' rows
-  pub rows_back : (ks : List ℕ) → Below no_key ks → rows_of (rows_bytes kind fd ks) ≡ map (row_for kind fd) ks
+  pub rows_back : (ks : List ℕ) → Below keys_end ks → rows_of (rows_bytes kind fd ks) ≡ map (row_for kind fd) ks
   unfolding rows_of
   rows_back ks b =
       let n : length (rows_bytes kind fd ks) / 10 ≡ length ks = omega (arith, rows-length kind fd ks) in

@@ -1,5 +1,5 @@
 -- Laws of the measuring functions: the length that was measured decides, and the plan's bodies are the subset's.
-use Rattle.std.specs.Prelude.{ℕ, ◌+◌, ◌≤◌, ◌<◌, ◌≡◌, refl, List, length, Err}
+use Rattle.std.specs.Prelude.{ℕ, ◌+◌, ◌≤◌, ◌<◌, ◌≡◌, refl, List, length, Option, Err}
 use Rattle.octets.specs.Octets.{put}
 use Rattle.unfold.specs.Unfold.{Row}
 use Rattle.cff.specs.Reads.{program_of}
@@ -7,11 +7,13 @@ use Rattle.subset.specs.Pruned.{Pruned}
 use Rattle.subset.specs.Subset.{subset_by_name}
 use Rattle.order_window.specs.Window.{glyphs_of}
 use Rattle.own_strings.specs.declared.Own.{Own}
+use Rattle.own_strings.specs.declared.slots.Slot.{Slot}
 use Rattle.renumber.specs.declared.Ranks.{Ranks}
 use Rattle.parts.specs.Ready.{bodies_for}
 use Rattle.parts.specs.declared.Planned.{Planned}
 use Rattle.outcome.specs.Entry.{a_cut, answer_of}
-use Rattle.named_parts.specs.Named.{coded_for, named_outcome, NamedPlan, NamedStrings, NamedCodes, PlacedNamed}
+use Rattle.named_parts.specs.Named.{named_outcome, NamedPlan, NamedStrings, NamedCodes, PlacedNamed}
+use Rattle.encoding.specs.Encoded.{coded_in}
 use Rattle.encoding.specs.declared.Encoding.{Encoding}
 use Rattle.front.specs.declared.NamedPlaces.{NamedPlaces}
 use Rattle.by_name.specs.NamedLaws.{planned_long, planned-written}
@@ -24,26 +26,26 @@ use Rattle.subset.specs.declared.Way.{Way}
 -- ---- name-keyed
 
 module _ (b : List ℕ) (rows : List Row) (used ws : List ℕ) (r : Planned) (table : List Ranks) (totals : List ℕ)
-    (g : NamedPlan b rows used ws r table totals) (name slots : List ℕ) (own : Own)
-    (t : NamedStrings (program_of b r.order.f) (glyphs_of b r.order.f ws) slots own (length name)) (e : Encoding) (coding : NamedCodes e slots) (at : NamedPlaces)
-    (placed : PlacedNamed (program_of b r.order.f) (coded_for e slots) name (glyphs_of b r.order.f ws) (bodies_for b rows used ws r) at) where
+    (g : NamedPlan b rows used ws r table totals) (name : List ℕ) (slots : List Slot) (own : Own)
+    (t : NamedStrings (program_of b r.order.f) (glyphs_of b r.order.f ws) slots own (length name)) (e : Encoding) (codes : List (Option ℕ)) (coding : NamedCodes e codes) (at : NamedPlaces)
+    (placed : PlacedNamed (program_of b r.order.f) (coded_in e codes) name (glyphs_of b r.order.f ws) (bodies_for b rows used ws r) at) where
   abbrev q : Pruned
   q = record { way = r.how.way; bodies = bodies_for b rows used ws r }
 
   -- too long
   pub named_long : 67108864 < at.end
-      → Err Subset ≡ answer_of (named_outcome (program_of b r.order.f) (coded_for e slots) name (glyphs_of b r.order.f ws) 67108864 q)
+      → Err Subset ≡ answer_of (named_outcome (program_of b r.order.f) (coded_in e codes) name (glyphs_of b r.order.f ws) 67108864 q)
   named_long h =
-      as_measured (λ (m : ℕ). named_outcome (program_of b r.order.f) (coded_for e slots) name (glyphs_of b r.order.f ws) m q) lent (Err Subset)
-      (planned_long b rows used ws r table totals g name slots own t e coding at placed lent h)
+      as_measured (λ (m : ℕ). named_outcome (program_of b r.order.f) (coded_in e codes) name (glyphs_of b r.order.f ws) m q) lent (Err Subset)
+      (planned_long b rows used ws r table totals g name slots own t e codes coding at placed lent h)
 
   -- measured
   pub named-fits : at.end ≤ 67108864
-      → a_cut r.how.way at.end ≡ answer_of (named_outcome (program_of b r.order.f) (coded_for e slots) name (glyphs_of b r.order.f ws) 67108864 q)
+      → a_cut r.how.way at.end ≡ answer_of (named_outcome (program_of b r.order.f) (coded_in e codes) name (glyphs_of b r.order.f ws) 67108864 q)
   named-fits h =
-      let bs = subset_by_name (program_of b r.order.f) (coded_for e slots) name (glyphs_of b r.order.f ws) (bodies_for b rows used ws r) in
-      as_measured (λ (m : ℕ). named_outcome (program_of b r.order.f) (coded_for e slots) name (glyphs_of b r.order.f ws) m q) (put lent 0 bs) (a_cut r.how.way at.end)
-      (planned-written b rows used ws r table totals g name slots own t e coding at placed lent h (lent-room at.end h) (put lent 0 bs) (0 + length bs)
+      let bs = subset_by_name (program_of b r.order.f) (coded_in e codes) name (glyphs_of b r.order.f ws) (bodies_for b rows used ws r) in
+      as_measured (λ (m : ℕ). named_outcome (program_of b r.order.f) (coded_in e codes) name (glyphs_of b r.order.f ws) m q) (put lent 0 bs) (a_cut r.how.way at.end)
+      (planned-written b rows used ws r table totals g name slots own t e codes coding at placed lent h (lent-room at.end h) (put lent 0 bs) (0 + length bs)
       (record { is = refl; behind = refl }))
 
 -- ---- CID-keyed

@@ -11,6 +11,7 @@ use cid_parts::places_cid;
 use faithful::read::Held;
 use outcome::Subsetted;
 use outcome::tables::Tables;
+use own_strings::slots::NO_SLOT;
 use refusal::Refusal;
 
 // The way and the length of the subset, if it is not too long. by_cid `cut_planned` begins so, but needs the places too: a function of both would promise
@@ -42,7 +43,7 @@ pub fn measure_cid(
     ensures { result ≡ answer_of (cut_behind false (program font.now.loaded) asked.now.name.now keep.now asked.now.rows.now (flag_of asked.now.traced) 67108864) }
 {
     let mut window = [0u32; 4096];
-    let mut slots = [0usize; 16];
+    let mut slots = [NO_SLOT; 8];
     let mut tables = Tables::new();
     let mut c = by_cid::prepare(
         font,

@@ -11,6 +11,7 @@ use named_parts::named::NamedSubset;
 use named_parts::places_named;
 use outcome::Subsetted;
 use outcome::tables::Tables;
+use own_strings::slots::NO_SLOT;
 use refusal::Refusal;
 
 // The way and the length of the subset, if it is not too long. by_name `cut_planned` begins so, but needs the places too, as by_cid's.
@@ -18,7 +19,7 @@ fn measure_planned(c: &NamedSubset<'_>) -> Result<Subsetted, Refusal>
     ensures { result ≡ answer_of (outcome_in c.now 67108864) }
 {
     let how = c.parts.cut.plan.how;
-    let at = places_named(c.kept.font, c.kept.words, &c.parts, c.encoding);
+    let at = places_named(c.kept.font, c.kept.words, &c.parts, c.encoding, c.codes);
     let end = at.end;
     if octets::LONGEST < end {
         return Err(Refusal::Subset);
@@ -41,7 +42,8 @@ pub fn measure_named(
     ensures { result ≡ answer_of (cut_behind false (program font.now.loaded) asked.now.name.now keep.now asked.now.rows.now (flag_of asked.now.traced) 67108864) }
 {
     let mut window = [0u32; 4096];
-    let mut slots = [0usize; 272];
+    let mut slots = [NO_SLOT; 8];
+    let mut codes = [None; 256];
     let mut tables = Tables::new();
     let c = by_name::prepare(
         font,
@@ -51,6 +53,7 @@ pub fn measure_named(
         words,
         &mut window,
         &mut slots,
+        &mut codes,
         &mut tables,
     )?;
     measure_planned(&c)

@@ -1,6 +1,6 @@
 -- The names of the kept glyphs in the terms of the subset: by the words of the order they are those of its glyphs, and the own strings and the new ids
 -- that the slots and these names give are the subset's.
-use Rattle.std.specs.Prelude.{ℕ, zero, suc, ◌+◌, ◌*◌, ◌/◌, ◌<◌, ◌≡◌, refl, false, List, [], ◌∷◌, length, take, get_or}
+use Rattle.std.specs.Prelude.{ℕ, zero, suc, ◌+◌, ◌*◌, ◌/◌, ◌<◌, ◌≡◌, refl, false, List, [], ◌∷◌, length, get_or, Option}
 use Rattle.std.proofs.Common.{sym, ap, ◌∙◌, arith}
 use Rattle.strings.specs.Strings.{string_text}
 use Rattle.cff.specs.Font.{Program}
@@ -14,7 +14,8 @@ use Rattle.order.specs.Walks.{many_in, order_in}
 use Rattle.order_window.specs.Window.{glyphs_of}
 use Rattle.order_window.specs.OrderLaws.{order_below}
 use Rattle.order_window.specs.GatheredLaws.{glyphs_many}
-use Rattle.own_strings.specs.Slots.{slots_of, slot_texts, word_names, all_own}
+use Rattle.own_strings.specs.declared.slots.Slot.{Slot}
+use Rattle.own_strings.specs.Slots.{sids_of, slots_of, slot_texts, word_names, all_own}
 use Rattle.own_strings.specs.SlotTexts.{name-texts}
 use Rattle.own_strings.specs.OwnLaws.{own-append}
 use Rattle.name_strings.specs.Names.{new_names}
@@ -43,11 +44,11 @@ module _ (b : List ℕ) (f : Font) (ws : List ℕ) (few : many_in f < 65536) whe
   pub order-names : word_names p.strings (order_in b f ws) ≡ names_of p (glyphs_of b f ws)
   order-names = words-names p (glyphs_of b f ws) (λ i h. omega (arith, order_below b f ws few i (omega (arith, glyphs_many b f ws))))
 
-  module _ (slots : List ℕ) (front : take 8 slots ≡ slots_of false p.top) where
+  module _ (slots : List Slot) (front : sids_of slots ≡ slots_of false p.top) where
     -- the own strings of the slots and of these names
     pub order-own : all_own p.strings slots (order_in b f ws) ≡ own_by_name p (glyphs_of b f ws)
     order-own =
-        ap (λ (l : List ℕ). own_strings_lem (own_strings_lem [] (slot_texts p.strings l)) (word_names p.strings (order_in b f ws))) front
+        ap (λ (l : List (Option ℕ)). own_strings_lem (own_strings_lem [] (slot_texts p.strings l)) (word_names p.strings (order_in b f ws))) front
         ∙ ap (λ (l : List (List ℕ)). own_strings_lem (own_strings_lem [] l) (word_names p.strings (order_in b f ws))) (name-texts p)
         ∙ ap (own_strings_lem (own_strings_lem [] (texts_of (named p)))) order-names
         ∙ sym (own-append [] (texts_of (named p)) (names_of p (glyphs_of b f ws)))

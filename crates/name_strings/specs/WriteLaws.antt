@@ -1,6 +1,6 @@
 -- Laws of the loops that write the String INDEX: a string is written where the id of what is used is the next.
-use Rattle.std.specs.Prelude.{ℕ, ◌+◌, ◌/◌, ◌≤◌, ◌<◌, ◌≡◌, refl, List, [], ◌∷◌, ◌++◌, take, drop, get_or}
-use Rattle.std.proofs.Common.{sym, ◌∙◌, arith, MutBor, take_all, get_or-take, get_or-drop, length-take-le}
+use Rattle.std.specs.Prelude.{ℕ, ◌+◌, ◌/◌, ◌≤◌, ◌<◌, ◌≡◌, refl, List, [], ◌∷◌, ◌++◌, take, drop, get_or, Option, Some, None}
+use Rattle.std.proofs.Common.{sym, ◌∙◌, arith, MutBor, take_all}
 use Rattle.std.proofs.Math.Path.{ap}
 use Rattle.std.proofs.Math.ListN.{length, length-append}
 use Rattle.std.proofs.Math.Seq.{take-append_seam}
@@ -20,11 +20,13 @@ use Rattle.cff.specs.declared.font.Font.{Font}
 use Rattle.subset.specs.Texts.{own_strings_lem}
 use Rattle.order.specs.Walks.{order_in}
 use Rattle.own_strings.specs.declared.Own.{Own}
-use Rattle.own_strings.specs.Slots.{slot_texts, slot_id, word_names, own_of, slots_own, all_own, given_id, counted}
+use Rattle.own_strings.specs.declared.slots.Slot.{Slot}
+use Rattle.own_strings.specs.Slots.{sids_of, ids_of, no_slot, slot_texts, slot_id, word_names, own_of, slots_own, all_own, given_id, counted}
 use Rattle.own_strings.specs.Ready.{SlotsGiven, IndexRoom}
 use Rattle.own_strings.specs.OwnLaws.{own_grown, own-append}
-use Rattle.own_strings.specs.SlotLaws.{used, stage-more, stage-rest, Next, Stays, Step, next, stays, step}
-use Rattle.own_strings.specs.IdsLaws.{slots-known}
+use Rattle.own_strings.specs.TurnLaws.{sids-length}
+use Rattle.own_strings.specs.SlotLaws.{used, used-empty, stage-more, stage-rest, Next, Stays, Step, next, stays, step}
+use Rattle.name_strings.specs.SlotCountLaws.{slot-sid, slot-new}
 use Rattle.name_strings.specs.declared.Started.{Started}
 use Rattle.name_strings.specs.Names.{Naming}
 use Rattle.name_strings.specs.NamingLaws.{naming_asks, naming-slot, naming-step, naming-used, naming-next}
@@ -36,7 +38,7 @@ begun_is out c a e b = rw (a, e) b
 
 -- ---- what is used, and its id
 
-module _ (strings stage all : List (List ℕ)) (x c : ℕ) (counts : c ≡ length stage) (id : ℕ) (is : id ≡ slot_id all strings x) where
+module _ (strings stage all : List (List ℕ)) (x c : ℕ) (counts : c ≡ length stage) (id : ℕ) (is : id ≡ slot_id all strings (Some x)) where
   is_next : id ≡ 391 + c → Step strings stage x all → Next strings stage x all
   is_next i (next s) = s
   is_next i (stays s) = absurd (omega (arith, s.id, is, counts))
@@ -52,20 +54,20 @@ module _ (strings stage all : List (List ℕ)) (x c : ℕ) (counts : c ≡ lengt
       (s.high, omega (arith, s.within, counts), sym s.is ∙ ap (λ (q : ℕ). get_or all q []) (sym counts))
 
   -- how many there are then
-  use-more : id ≡ 391 + c → Step strings stage x all → c + 1 ≡ length (used strings stage x)
+  use-more : id ≡ 391 + c → Step strings stage x all → c + 1 ≡ length (used strings stage (Some x))
   use-more i t = omega (arith, counts, ap length (is_next i t).more, length-append stage (string_text strings x ∷ []))
 
-  use-same : (id ≡ 391 + c → ⊥) → Step strings stage x all → c ≡ length (used strings stage x)
+  use-same : (id ≡ 391 + c → ⊥) → Step strings stage x all → c ≡ length (used strings stage (Some x))
   use-same i t = counts ∙ ap length (sym (is_same i t).same)
 
 -- ---- the strings of the slots
 
-module _ (strings : List (List ℕ)) (slots : List ℕ) (g : SlotsGiven strings slots) where
-  abbrev l : List ℕ
-  l = take 8 slots
+module _ (strings : List (List ℕ)) (slots : List Slot) (g : SlotsGiven strings slots) where
+  abbrev l : List (Option ℕ)
+  l = sids_of slots
 
   eight : length l ≡ 8
-  eight = length-take-le 8 slots (omega (arith, g.room))
+  eight = sids-length slots ∙ g.eight
 
   pub slot-meant : (n : ℕ) (ix : Index) (at : ℕ) (own : Own) (old : List ℕ) → (r : StringsRoom strings slots old at own) → ix ≡ index_for_lem at own.count own.total
       → n ≡ length old → Meant n ix (own_strings_lem (slots_own strings slots) r.others)
@@ -99,53 +101,70 @@ module _ (strings : List (List ℕ)) (slots : List ℕ) (g : SlotsGiven strings 
     inside : j < length l
     inside = omega (arith, eight)
 
-    reads : get_or slots j 0 ≡ get_or l j 0
-    reads = sym (get_or-take 8 slots j 0 h)
-
-    slot-id : get_or slots (8 + j) 0 ≡ slot_id all strings (get_or slots j 0)
-    slot-id = sym (get_or-drop 8 slots j 0) ∙ slots-known strings slots g t.others j h ∙ ap (slot_id all strings) (sym reads)
-
-    slot_step : Step strings stage (get_or slots j 0) all
-    slot_step =
-        let rest = slot_texts strings (drop (j + 1) l) in
-        step strings stage (rest ++ t.others) (get_or slots j 0) all
-        (ap (λ (o : List (List ℕ)). own_strings_lem o t.others) (stage-rest strings [] l j inside)
-        ∙ sym (own-append (used strings stage (get_or l j 0)) rest t.others)
-        ∙ ap (λ (x : ℕ). own_strings_lem (used strings stage x) (rest ++ t.others)) (sym reads))
-
-    slot-used : own_strings_lem [] (slot_texts strings (take (j + 1) l)) ≡ used strings stage (get_or slots j 0)
-    slot-used = stage-more strings [] l j inside ∙ ap (used strings stage) (sym reads)
-
-    pub slot_string : get_or slots (8 + j) 0 ≡ 391 + c
-        → (391 ≤ get_or slots j 0) × (c < length all) × (string_text strings (get_or slots j 0) ≡ get_or all c [])
-    slot_string i = use_string strings stage all (get_or slots j 0) c t.counts (get_or slots (8 + j) 0) slot-id i slot_step
-
-    pub slot_next : get_or slots (8 + j) 0 ≡ 391 + c → {new : Out} (out' : Out) (c' : ℕ) → out' ≡ new → c' ≡ c + 1
-        → Begins mid ix all (c + 1) new → SlotWriting strings slots mid ix out' c' (j + 1)
-    slot_next i {new} out' c' a e s =
+    -- a slot of no string
+    pub slot_none : (get_or slots j no_slot).sid ≡ None → (out' : Out) (c' : ℕ) → out' ≡ out → c' ≡ c → SlotWriting strings slots mid ix out' c' (j + 1)
+    slot_none n out' c' a e =
         record {
           others = t.others;
           meant = t.meant;
           small = t.small;
           within = omega arith;
-          counts =
-              e ∙ use-more strings stage all (get_or slots j 0) c t.counts (get_or slots (8 + j) 0) slot-id i slot_step ∙ ap length (sym slot-used);
-          few = omega (arith, e, (slot_string i).1);
-          begun = begun_is out' c' a e s;
-        }
-
-    pub slot_same : (get_or slots (8 + j) 0 ≡ 391 + c → ⊥) → (out' : Out) (c' : ℕ) → out' ≡ out → c' ≡ c → SlotWriting strings slots mid ix out' c' (j + 1)
-    slot_same i out' c' a e =
-        record {
-          others = t.others;
-          meant = t.meant;
-          small = t.small;
-          within = omega arith;
-          counts =
-              e ∙ use-same strings stage all (get_or slots j 0) c t.counts (get_or slots (8 + j) 0) slot-id i slot_step ∙ ap length (sym slot-used);
+          counts = e ∙ t.counts ∙ ap length (sym (stage-more strings [] l j inside ∙ ap (used strings stage) (slot-sid slots j None n) ∙ used-empty strings stage));
           few = omega (arith, e, t.few);
           begun = begun_is out' c' a e t.begun;
         }
+
+    module _ (x : ℕ) (there : (get_or slots j no_slot).sid ≡ Some x) where
+      abbrev id : ℕ
+      id = (get_or slots j no_slot).id
+
+      reads : get_or l j None ≡ Some x
+      reads = slot-sid slots j (Some x) there
+
+      slot-id : id ≡ slot_id all strings (Some x)
+      slot-id = slot-new strings slots g t.others j h (Some x) there
+
+      slot_step : Step strings stage x all
+      slot_step =
+          let rest = slot_texts strings (drop (j + 1) l) in
+          step strings stage (rest ++ t.others) x all
+          (ap (λ (o : List (List ℕ)). own_strings_lem o t.others) (stage-rest strings [] l j inside)
+          ∙ sym (own-append (used strings stage (get_or l j None)) rest t.others)
+          ∙ ap (λ (o : Option ℕ). own_strings_lem (used strings stage o) (rest ++ t.others)) reads)
+
+      slot-used : own_strings_lem [] (slot_texts strings (take (j + 1) l)) ≡ used strings stage (Some x)
+      slot-used = stage-more strings [] l j inside ∙ ap (used strings stage) reads
+
+      pub slot_string : id ≡ 391 + c
+          → (391 ≤ x) × (c < length all) × (string_text strings x ≡ get_or all c [])
+      slot_string i = use_string strings stage all x c t.counts id slot-id i slot_step
+
+      pub slot_next : id ≡ 391 + c → {new : Out} (out' : Out) (c' : ℕ) → out' ≡ new → c' ≡ c + 1
+          → Begins mid ix all (c + 1) new → SlotWriting strings slots mid ix out' c' (j + 1)
+      slot_next i {new} out' c' a e s =
+          record {
+            others = t.others;
+            meant = t.meant;
+            small = t.small;
+            within = omega arith;
+            counts =
+                e ∙ use-more strings stage all x c t.counts id slot-id i slot_step ∙ ap length (sym slot-used);
+            few = omega (arith, e, (slot_string i).1);
+            begun = begun_is out' c' a e s;
+          }
+
+      pub slot_same : (id ≡ 391 + c → ⊥) → (out' : Out) (c' : ℕ) → out' ≡ out → c' ≡ c → SlotWriting strings slots mid ix out' c' (j + 1)
+      slot_same i out' c' a e =
+          record {
+            others = t.others;
+            meant = t.meant;
+            small = t.small;
+            within = omega arith;
+            counts =
+                e ∙ use-same strings stage all x c t.counts id slot-id i slot_step ∙ ap length (sym slot-used);
+            few = omega (arith, e, t.few);
+            begun = begun_is out' c' a e t.begun;
+          }
 
 -- the first strings are what is begun
 begun_as : {mid new : Out} {k : ℕ} (ix : Index) (xs ys : List (List ℕ)) → take k xs ≡ take k ys → Begins mid ix xs k new → Begins mid ix ys k new
@@ -166,13 +185,13 @@ first_part first others k e =
     ap (λ (n : ℕ). take n (own_strings_lem first others)) e ∙ ap (take (length first)) g.is ∙ take-append_seam first g.rest
     ∙ sym (ap (λ (n : ℕ). take n first) e ∙ take_all (length first) first (omega arith))
 
-pub slot_end : (strings : List (List ℕ)) (slots : List ℕ) → SlotsGiven strings slots → (old : Out) (own : Own) (after mid : Out) (s : Started) (out : Out) (j : ℕ)
+pub slot_end : (strings : List (List ℕ)) (slots : List Slot) → SlotsGiven strings slots → (old : Out) (own : Own) (after mid : Out) (s : Started) (out : Out) (j : ℕ)
     → s.ix ≡ index_for_lem old.at own.count own.total → Writes old (head_bytes own.count (size_for (own.total + 1))) after → mid.bytes ≡ after.bytes
     → SlotWriting strings slots mid s.ix out s.count j → 8 ≤ j → StringsBegun old own (slots_own strings slots) out s
 slot_end strings slots g old own after mid s out j is head from t h =
     let first = slots_own strings slots in
-    let e : length (take 8 slots) ≡ 8 = length-take-le 8 slots (omega (arith, g.room)) in
-    let n : s.count ≡ length first = t.counts ∙ ap (λ (l : List ℕ). length (own_strings_lem [] (slot_texts strings l))) (take_all j (take 8 slots) (omega (arith, e))) in
+    let e : length (sids_of slots) ≡ 8 = sids-length slots ∙ g.eight in
+    let n : s.count ≡ length first = t.counts ∙ ap (λ (l : List (Option ℕ)). length (own_strings_lem [] (slot_texts strings l))) (take_all j (sids_of slots) (omega (arith, e))) in
     record {
       after = after;
       mid = mid;
@@ -185,7 +204,7 @@ slot_end strings slots g old own after mid s out j is head from t h =
 
 -- ---- an INDEX that was begun
 
-pub slots-alone : (strings : List (List ℕ)) (slots out : List ℕ) (at : ℕ) (own : Own) → IndexRoom out at (slots_own strings slots) own → StringsRoom strings slots out at own
+pub slots-alone : (strings : List (List ℕ)) (slots : List Slot) (out : List ℕ) (at : ℕ) (own : Own) → IndexRoom out at (slots_own strings slots) own → StringsRoom strings slots out at own
 unfolding own_strings_lem
 slots-alone strings slots out at own r = record { others = []; room = r }
 
@@ -221,7 +240,7 @@ module _ (old : Out) (own : Own) (first : List (List ℕ)) (out : Out) (s : Star
 
 -- ---- the strings of the names
 
-module _ (b : List ℕ) (f : Font) (ws slots : List ℕ) where
+module _ (b : List ℕ) (f : Font) (ws : List ℕ) (slots : List Slot) where
   abbrev S : List (List ℕ)
   S = items_of b f.strings
 
@@ -239,17 +258,17 @@ module _ (b : List ℕ) (f : Font) (ws slots : List ℕ) where
     part = all_own S slots (take i order)
 
     -- what `given_id` asks
-    pub name_asks : (8 ≤ 8) × (16 ≤ length slots) × (c < 4294967296)
-    name_asks = let q = naming_asks b f ws slots (own_of part) i t.naming in (q.0, q.1, omega (arith, q.2, t.counts))
+    pub name_asks : c < 4294967296
+    name_asks = omega (arith, naming_asks b f ws slots (own_of part) i t.naming, t.counts)
 
     pub name_end : length order ≤ i → c ≡ length (all_own S slots order)
     name_end h = t.counts ∙ ap (λ (l : List ℕ). length (all_own S slots l)) (take_all i order h)
 
-    module _ (h : i < length order) (w : ℕ) (is : w ≡ get_or order i 0) (id : ℕ) (gives : id ≡ given_id S (take 8 slots) (drop 8 slots) c (w / 65536)) where
-      given : id ≡ given_id S (take 8 slots) (drop 8 slots) (length part) (w / 65536)
-      given = gives ∙ ap (λ (n : ℕ). given_id S (take 8 slots) (drop 8 slots) n (w / 65536)) t.counts
+    module _ (h : i < length order) (w : ℕ) (is : w ≡ get_or order i 0) (id : ℕ) (gives : id ≡ given_id S (sids_of slots) (ids_of slots) c (Some (w / 65536))) where
+      given : id ≡ given_id S (sids_of slots) (ids_of slots) (length part) (Some (w / 65536))
+      given = gives ∙ ap (λ (n : ℕ). given_id S (sids_of slots) (ids_of slots) n (Some (w / 65536))) t.counts
 
-      new-slot : id ≡ slot_id (all_own S slots order) S (w / 65536)
+      new-slot : id ≡ slot_id (all_own S slots order) S (Some (w / 65536))
       new-slot = naming-slot b f ws slots (own_of part) i t.naming h w is id given
 
       name-step : Step S part (w / 65536) (all_own S slots order)
@@ -260,7 +279,7 @@ module _ (b : List ℕ) (f : Font) (ws slots : List ℕ) where
           let n = naming-next b f ws slots (own_of part) i t.naming h w is id given (counted S (own_of part) (w / 65536) id) refl in
           rw n.counts at n
 
-      name-used : all_own S slots (take (i + 1) order) ≡ used S part (w / 65536)
+      name-used : all_own S slots (take (i + 1) order) ≡ used S part (Some (w / 65536))
       name-used = naming-used b f ws slots (own_of part) i t.naming h w is id given
 
       pub name_string : id ≡ 391 + c → (391 ≤ w / 65536) × (c < length (all_own S slots order)) × (string_text S (w / 65536) ≡ get_or (all_own S slots order) c [])

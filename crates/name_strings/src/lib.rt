@@ -21,6 +21,7 @@ use index::items::Items;
 use octets::out::Out;
 use order_window::window::Kept;
 use own_strings::Own;
+use own_strings::slots::Slot;
 
 // A String INDEX that was begun: where its parts stand, and how many strings are written.
 #[derive(Clone, Copy)]
@@ -36,13 +37,19 @@ pub fn slots_own(slots: &GivenSlots<'_, '_>) -> Own
 {
     let mut own = Own { count: 0, total: 0 };
     for j in 0..8 {
-        own = own_strings::count_one(&slots.strings, own, slots.ids[j], slots.ids[8 + j]);
+        let slot = slots.slots[j];
+        match slot.sid {
+            None => {}
+            Some(sid) => {
+                own = own_strings::count_one(&slots.strings, own, sid, slot.id as usize);
+            }
+        }
     }
     own
 }
 
 // The own strings of a name-keyed subset: those of the slots, and of the names of the kept glyphs.
-pub fn count_names(kept: &mut Kept<'_>, slots: &[usize], own: Own) -> Own
+pub fn count_names(kept: &mut Kept<'_>, slots: &[Slot; 8], own: Own) -> Own
     requires { (NamesReady kept.old slots.now) × (own ≡ own_of (slots_own (strings_of kept.old) slots.now)) }
     ensures { (result ≡ own_of (all_own (strings_of kept.old) slots.now (order_of kept.old)))
         × (result.count ≤ 65544) × (result.total ≤ 4398583382016) × (Stays kept.old kept.new) }
@@ -52,11 +59,10 @@ pub fn count_names(kept: &mut Kept<'_>, slots: &[usize], own: Own) -> Own
         bytes: font,
         ix: kept.o.f.strings,
     };
-    order::octets_in(font);
     let mut all = own;
     for i in 0..kept.o.count {
         let x = kept.word(i) / 65536;
-        let id = own_strings::given_id(&strings, slots, 8, all.count, x);
+        let id = own_strings::given_id(&strings, slots, all.count, Some(x));
         all = own_strings::count_one(&strings, all, x, id);
     }
     all
@@ -64,7 +70,7 @@ pub fn count_names(kept: &mut Kept<'_>, slots: &[usize], own: Own) -> Own
 
 // Begins the String INDEX of a subset: its head, for all own strings, and the strings of the slots.
 fn begin_strings(slots: &GivenSlots<'_, '_>, own: Own, out: &mut Out<'_>) -> Started
-    requires { StringsRoom (items slots.now.strings) slots.now.ids.now out.old.bytes.now out.old.at own }
+    requires { StringsRoom (items slots.now.strings) slots.now.slots.now out.old.bytes.now out.old.at own }
     ensures { StringsBegun out.old own (own_in slots.now) out.new result }
 {
     let count = own.count;
@@ -74,19 +80,23 @@ fn begin_strings(slots: &GivenSlots<'_, '_>, own: Own, out: &mut Out<'_>) -> Sta
     out.at = ix.base + 1;
     let mut c = 0;
     for j in 0..8 {
-        let sid = slots.ids[j];
-        let id = slots.ids[8 + j];
-        if id == 391 + c {
-            let text = find::own_text(&slots.strings, sid);
-            index::put_item(&mut *out, ix, c, text);
-            c += 1;
+        let slot = slots.slots[j];
+        match slot.sid {
+            None => {}
+            Some(sid) => {
+                if slot.id as usize == 391 + c {
+                    let text = find::own_text(&slots.strings, sid);
+                    index::put_item(&mut *out, ix, c, text);
+                    c += 1;
+                }
+            }
         }
     }
     Started { ix, count: c }
 }
 
 // Writes the String INDEX of a name-keyed subset.
-pub fn put_strings(kept: &mut Kept<'_>, slots: &[usize], own: Own, out: &mut Out<'_>)
+pub fn put_strings(kept: &mut Kept<'_>, slots: &[Slot; 8], own: Own, out: &mut Out<'_>)
     requires { (NamesReady kept.old slots.now)
         × (IndexRoom out.old.bytes.now out.old.at (all_own (strings_of kept.old) slots.now (order_of kept.old)) own) }
     ensures { (Writes out.old (index_bytes (all_own (strings_of kept.old) slots.now (order_of kept.old))) out.new)
@@ -97,17 +107,13 @@ pub fn put_strings(kept: &mut Kept<'_>, slots: &[usize], own: Own, out: &mut Out
         bytes: font,
         ix: kept.o.f.strings,
     };
-    order::octets_in(font);
-    let given = GivenSlots {
-        strings,
-        ids: slots,
-    };
+    let given = GivenSlots { strings, slots };
     let begun = begin_strings(&given, own, &mut *out);
     let ix = begun.ix;
     let mut c = begun.count;
     for i in 0..kept.o.count {
         let sid = kept.word(i) / 65536;
-        let id = own_strings::given_id(&strings, slots, 8, c, sid);
+        let id = own_strings::given_id(&strings, slots, c, Some(sid));
         if id == 391 + c {
             let text = find::own_text(&strings, sid);
             index::put_item(&mut *out, ix, c, text);
@@ -125,7 +131,7 @@ pub fn put_slot_strings(slots: &GivenSlots<'_, '_>, own: Own, out: &mut Out<'_>)
 }
 
 // Writes the charset of a name-keyed subset, by the new ids of the names.
-pub fn put_charset_named(kept: &mut Kept<'_>, slots: &[usize], out: &mut Out<'_>)
+pub fn put_charset_named(kept: &mut Kept<'_>, slots: &[Slot; 8], out: &mut Out<'_>)
     requires { (NamesReady kept.old slots.now) × (out.old.at + length (charset_bytes (names_for kept.old slots.now)) ≤ length out.old.bytes.now) }
     ensures { (Writes out.old (charset_bytes (names_for kept.old slots.now)) out.new) × (Stays kept.old kept.new) }
 {
@@ -134,16 +140,12 @@ pub fn put_charset_named(kept: &mut Kept<'_>, slots: &[usize], out: &mut Out<'_>
         bytes: font,
         ix: kept.o.f.strings,
     };
-    order::octets_in(font);
     out.byte(0);
-    let given = GivenSlots {
-        strings,
-        ids: slots,
-    };
+    let given = GivenSlots { strings, slots };
     let mut own = slots_own(&given);
     for i in 0..kept.o.count {
         let x = kept.word(i) / 65536;
-        let id = own_strings::given_id(&strings, slots, 8, own.count, x);
+        let id = own_strings::given_id(&strings, slots, own.count, Some(x));
         own = own_strings::count_one(&strings, own, x, id);
         if 0 < i {
             out.num(id, 2);

@@ -1,14 +1,15 @@
-// The slots of the strings that a top DICT names, and their new ids.
+// The slots of the strings that a top DICT names, with the strings.
 ghost use Rattle.index.specs.Items.{items};
 ghost use Rattle.own_strings.specs.Ready.{SlotsGiven};
 ghost use Rattle.name_strings.specs.Alone.{slots_given_prop};
 
 use index::items::Items;
+use own_strings::slots::Slot;
 
-// Eight slots with their new ids behind them, and the strings of the font that they are ids of.
+// Eight slots that have their new ids, and the strings of the font that they are ids of.
 #[derive(Clone, Copy)]
 pub struct GivenSlots<'a, 'b> {
     pub strings: Items<'a>,
-    pub ids: &'b [usize],
-    ghost given: { SlotsGiven (items strings) ids.now } by { slots_given_prop (items strings) ids.now },
+    pub slots: &'b [Slot; 8],
+    ghost given: { SlotsGiven (items strings) slots.now } by { slots_given_prop (items strings) slots.now },
 }

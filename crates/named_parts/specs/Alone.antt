@@ -1,5 +1,5 @@
 -- That the parts of a subset are ready is one fact, so that a type may hold it.
-use Rattle.std.specs.Prelude.{ℕ, List}
+use Rattle.std.specs.Prelude.{ℕ, List, Option}
 use Rattle.std.proofs.Props.{props}
 use Rattle.plan.specs.Alone.{measure_in_prop}
 use Rattle.faithful.specs.Alone.{held_prop}
@@ -8,5 +8,5 @@ use Rattle.encoding.specs.declared.Encoding.{Encoding}
 use Rattle.outcome.specs.declared.tables.Parts.{Parts}
 use Rattle.named_parts.specs.Named.{NamedReady}
 
-pub named_ready_prop : (b ws : List ℕ) (o : Order) (parts : Parts) (e : Encoding) → IsProp (NamedReady b ws o parts e)
-named_ready_prop b ws o parts e = Prim.hlevel (props, held_prop, measure_in_prop)
+pub named_ready_prop : (b ws : List ℕ) (o : Order) (parts : Parts) (e : Encoding) (codes : List (Option ℕ)) → IsProp (NamedReady b ws o parts e codes)
+named_ready_prop b ws o parts e codes = Prim.hlevel (props, held_prop, measure_in_prop)

@@ -1,5 +1,5 @@
 -- The cut of a name-keyed font (document 01, 'Layout'; crates/subset, subset_by_name), over what the code holds when its bodies are planned.
-use Rattle.std.specs.Prelude.{ℕ, ◌≤◌, ◌<◌, ◌≡◌, false, List, [], ◌∷◌, ◌++◌, length, drop, set, replicate}
+use Rattle.std.specs.Prelude.{ℕ, ◌≤◌, ◌<◌, ◌≡◌, false, List, [], ◌∷◌, ◌++◌, length, set, replicate, Option}
 use Rattle.index.specs.Write.{index_bytes}
 use Rattle.charset.specs.CharsetBytes.{charset_bytes}
 use Rattle.unfold.specs.Unfold.{Row}
@@ -17,6 +17,7 @@ use Rattle.order_window.specs.declared.Order.{Order}
 use Rattle.order_window.specs.Window.{glyphs_of, Gathered}
 use Rattle.record.specs.Record.{rows_of}
 use Rattle.own_strings.specs.declared.Own.{Own}
+use Rattle.own_strings.specs.declared.slots.Slot.{Slot}
 use Rattle.name_strings.specs.Names.{NamesApart}
 use Rattle.renumber.specs.declared.Ranks.{Ranks}
 use Rattle.fds.specs.Locals.{fds_in}
@@ -30,10 +31,6 @@ use Rattle.outcome.specs.Layout.{named_charset, named_codes, named_charstrings, 
 use Rattle.front.specs.declared.NamedPlaces.{NamedPlaces}
 use Rattle.encoding.specs.Encoded.{pairs_of, coded_in, Encodes}
 use Rattle.encoding.specs.declared.Encoding.{Encoding}
-
--- the encoding of a subset, whose codes stand behind the sixteen slots
-abbrev pub coded_for : Encoding → List ℕ → Coded
-coded_for e slots = coded_in e (drop 16 slots)
 
 -- charset and encoding of the kept glyphs
 abbrev pub named_tables : Program → List ℕ → Coded → List ℕ
@@ -61,23 +58,22 @@ abbrev pub first_fd : List ℕ
 first_fd = set (replicate 256 0) 0 1
 
 -- the own strings are counted and few, and the new name is short
-pub record NamedStrings (p : Program) (order slots : List ℕ) (own : Own) (name : ℕ) : Type 0 where
+pub record NamedStrings (p : Program) (order : List ℕ) (slots : List Slot) (own : Own) (name : ℕ) : Type 0 where
   pub ready : SlotsReady p false slots
   pub measured : Measured (own_by_name p order) own
   pub few : own.count ≤ 64609
   pub short : name ≤ 65535
 
 -- its encoding: there are not too many pairs
-pub record NamedCodes (e : Encoding) (slots : List ℕ) : Type 0 where
-  pub is : Encodes (coded_for e slots) (drop 16 slots) e
+pub record NamedCodes (e : Encoding) (codes : List (Option ℕ)) : Type 0 where
+  pub is : Encodes (coded_in e codes) codes e
   pub few : pairs_of e ≤ 255
-  pub long : 272 ≤ length slots
 
 -- what a subset is written from: the bodies are planned, the strings counted, the codes few, and it is the plan's glyphs that are kept
-pub record NamedReady (b ws : List ℕ) (o : Order) (parts : Parts) (e : Encoding) : Type 0 where
+pub record NamedReady (b ws : List ℕ) (o : Order) (parts : Parts) (e : Encoding) (held : List (Option ℕ)) : Type 0 where
   pub plan : NamedPlan b (rows_of parts.rows.now) parts.used.now ws parts.cut.plan parts.table.now parts.totals.now
   pub strings : NamedStrings (program_of b parts.cut.plan.order.f) (glyphs_of b parts.cut.plan.order.f ws) parts.slots.now parts.cut.own (length parts.name.now)
-  pub codes : NamedCodes e parts.slots.now
+  pub codes : NamedCodes e held
   pub walked : Walked o parts.cut.plan.order
 
 -- the places of the parts, and the size of the Private DICT

@@ -1,9 +1,8 @@
 -- Laws of the parts of a name-keyed subset: where they stand, what their writers ask, and that part behind part the subset is written.
 use Rattle.std.specs.Prelude.{ℕ, ◌+◌, ◌*◌, ◌-◌, ◌≤◌, ◌<◌, ◌≡◌, false, List, [], ◌∷◌, ◌++◌, length, take, drop, get_or, Option}
-use Rattle.std.proofs.Common.{sym, ap, ◌∙◌, subst, append_assoc, append-nil, arith, length-append, length-drop, get_or-take, take_all}
+use Rattle.std.proofs.Common.{sym, ap, ◌∙◌, subst, append_assoc, append-nil, arith, length-append, get_or-take}
 use Rattle.octets.specs.Octets.{Wrote}
 use Rattle.octets.specs.PutLaws.{wrote_as}
-use Rattle.octets.specs.Lists.{part_of}
 use Rattle.index.specs.Write.{index_bytes, index_len_lem}
 use Rattle.charset.specs.CharsetBytes.{charset_bytes}
 use Rattle.charset.specs.CharsetBytesLaws.{charset-length}
@@ -25,6 +24,7 @@ use Rattle.renumber.specs.declared.Ranks.{Ranks}
 use Rattle.private_dicts.specs.Privates.{no_part, parts_of}
 use Rattle.private_dicts.specs.declared.part.Part.{Part}
 use Rattle.own_strings.specs.declared.Own.{Own}
+use Rattle.own_strings.specs.declared.slots.Slot.{Slot}
 use Rattle.own_strings.specs.Ready.{SlotsGiven}
 use Rattle.name_strings.specs.Names.{NamesApart, new_names, names_for, NamesReady}
 use Rattle.name_strings.specs.NamesLaws.{order-ids}
@@ -46,7 +46,7 @@ use Rattle.parts.specs.CodeLaws.{globals_long, glyphs_long, glyphs-asked, glyphs
 use Rattle.parts.specs.PrivateLaws.{all-parts, parts_held, privates-asked, privates_are}
 use Rattle.outcome.specs.Walked.{Walked, charstrings-walked, same-charstrings}
 use Rattle.outcome.specs.Layout.{front_len, named_charset, named_codes, named_charstrings, named_private, named_end, named_top, named-parts, named-length}
-use Rattle.named_parts.specs.Named.{coded_for, named_tables, named_glyphs, NamedPlan, NamedStrings, NamedCodes, PlacedNamed}
+use Rattle.named_parts.specs.Named.{named_tables, named_glyphs, NamedPlan, NamedStrings, NamedCodes, PlacedNamed}
 use Rattle.front.specs.declared.NamedPlaces.{NamedPlaces}
 use Rattle.encoding.specs.Encoded.{pairs_of, coded_in, Encodes, encoding_len, offset_for, CanRename}
 use Rattle.encoding.specs.EncodedLaws.{encodes-length, encodes-offset}
@@ -54,18 +54,18 @@ use Rattle.encoding.specs.declared.Encoding.{Encoding}
 use Rattle.subset.specs.declared.Way.{Way}
 
 -- slots that are ready, and names that differ, are what new ids ask
-pub can_rename : (b : List ℕ) (f : Font) (ws slots : List ℕ) → SmallFont b f → SlotsReady (program_of b f) false slots → NamesApart b f ws → CanRename b f ws slots
+pub can_rename : (b : List ℕ) (f : Font) (ws : List ℕ) (slots : List Slot) → SmallFont b f → SlotsReady (program_of b f) false slots → NamesApart b f ws → CanRename b f ws slots
 can_rename b f ws slots small ready apart = record { has = has-strings b f small; front = ready.front; given = ready.given; apart = apart }
 
 -- charset and encoding, one behind the other, of the font that is walked
-module _ (k : Kept) (e : Encoding) (slots : List ℕ) (f : Font) (walked : k.o.f ≡ f) (ready : SlotsReady (program_of k.font.now f) false slots) (coding : NamedCodes e slots)
-    (small : length k.font.now ≤ 67108864) (apart : NamesApart k.font.now f k.words.now) (out : List ℕ) (at : ℕ)
-    (room : at + length (named_tables (program_of k.font.now f) (glyphs_of k.font.now f k.words.now) (coded_for e slots)) ≤ length out) where
+module _ (k : Kept) (e : Encoding) (codes : List (Option ℕ)) (slots : List Slot) (f : Font) (walked : k.o.f ≡ f) (ready : SlotsReady (program_of k.font.now f) false slots)
+    (coding : NamedCodes e codes) (small : length k.font.now ≤ 67108864) (apart : NamesApart k.font.now f k.words.now) (out : List ℕ) (at : ℕ)
+    (room : at + length (named_tables (program_of k.font.now f) (glyphs_of k.font.now f k.words.now) (coded_in e codes)) ≤ length out) where
   abbrev charset_part : List ℕ
   charset_part = charset_bytes (new_ids (own_by_name (program_of k.font.now f) (glyphs_of k.font.now f k.words.now)) (names_of (program_of k.font.now f) (glyphs_of k.font.now f k.words.now)))
 
   abbrev coded_part : List ℕ
-  coded_part = coded_bytes (coded_for e slots)
+  coded_part = coded_bytes (coded_in e codes)
 
   good : GoodFont k.font.now f
   good = subst (GoodFont k.font.now) walked k.gathered.good
@@ -92,26 +92,13 @@ module _ (k : Kept) (e : Encoding) (slots : List ℕ) (f : Font) (walked : k.o.f
     coded-room : q + length coded_part ≤ length mid
     coded-room = writing-left room charset-put
 
-    -- what writing the encoding asks, of the codes behind the slots
-    module _ (table : List ℕ) (is : table ≡ drop 16 slots) where
-      codes_are : coded_in e table ≡ coded_for e slots
-      codes_are = ap (coded_in e) is
+    -- what writing the encoding asks
+    pub codes-asked : Encodes (coded_in e codes) codes e × (pairs_of e ≤ 255) × (q + length coded_part ≤ length mid)
+    codes-asked = (coding.is, coding.few, coded-room)
 
-      pub codes-asked : Encodes (coded_in e table) table e × (pairs_of e ≤ 255) × (256 ≤ length table) × (q + length (coded_bytes (coded_in e table)) ≤ length mid)
-      codes-asked = (
-        subst (λ (l : List ℕ). Encodes (coded_in e l) l e) (sym is) coding.is,
-        coding.few,
-        omega (arith, ap length is, length-drop 16 slots, coding.long),
-        omega (arith, ap (λ (c : Coded). length (coded_bytes c)) codes_are, coded-room),
-      )
-
-      pub tables_wrote : {new : List ℕ} {q2 : ℕ} → Wrote mid q (coded_bytes (coded_in e table)) new q2
-          → Wrote out at (named_tables (program_of k.font.now f) (glyphs_of k.font.now f k.words.now) (coded_for e slots)) new q2
-      tables_wrote v = writing-last room charset-put (wrote_as v (ap coded_bytes codes_are))
-
--- what stands behind the slots
-pub behind-slots : (slots : List ℕ) → part_of slots 16 (length slots - 16) ≡ drop 16 slots
-behind-slots slots = take_all (length slots - 16) (drop 16 slots) (omega (arith, length-drop 16 slots))
+    pub tables_wrote : {new : List ℕ} {q2 : ℕ} → Wrote mid q coded_part new q2
+        → Wrote out at (named_tables (program_of k.font.now f) (glyphs_of k.font.now f k.words.now) (coded_in e codes)) new q2
+    tables_wrote v = writing-last room charset-put v
 
 -- ---- one FD alone
 
@@ -203,12 +190,12 @@ module _ (b : List ℕ) (rows : List Row) (used ws : List ℕ) (r : Planned) (ta
 
   -- ---- measured
 
-  module _ (name slots : List ℕ) (own : Own) (t : NamedStrings p order slots own (length name)) (e : Encoding) (coding : NamedCodes e slots) where
+  module _ (name : List ℕ) (slots : List Slot) (own : Own) (t : NamedStrings p order slots own (length name)) (e : Encoding) (held : List (Option ℕ)) (coding : NamedCodes e held) where
     abbrev strings : List (List ℕ)
     strings = own_by_name p order
 
     abbrev coded : Coded
-    coded = coded_for e slots
+    coded = coded_in e held
 
     abbrev codes : List ℕ
     codes = coded_bytes coded
@@ -237,14 +224,14 @@ module _ (b : List ℕ) (rows : List Row) (used ws : List ℕ) (r : Planned) (ta
           }
           → PlacedNamed p coded name order bodies at
       places_are at i =
-          let v₁ : v ≡ coded_at coded 1 = v-is ∙ sym (encodes-offset coded (drop 16 slots) e coding.is 1) in
+          let v₁ : v ≡ coded_at coded 1 = v-is ∙ sym (encodes-offset coded held e coding.is 1) in
           let m : front ≡ front_len name (top_by_name p strings 0 (coded_at coded 1) 0 0 0) strings
           = front_is ∙ ap (λ (x : ℕ). measuredLen false x p.top slots (length name) own) v₁ ∙ measured_is in
           let c : front + globals ≡ named_charset p coded name order bodies
           = omega (arith, m, globals-is, globals_long b rows used ws table r g.ready) in
           let x : front + globals + (1 + 2 * (k - 1)) ≡ named_codes p coded name order bodies = omega (arith, c, ids_long) in
           let d : front + globals + (1 + 2 * (k - 1)) + len ≡ named_charstrings p coded name order bodies
-          = omega (arith, x, len_is, encodes-length coded (drop 16 slots) e coding.is) in
+          = omega (arith, x, len_is, encodes-length coded held e coding.is) in
           let q : front + globals + (1 + 2 * (k - 1)) + len + many ≡ named_private p coded name order bodies
           = omega (arith, d, many_is, glyphs_long b rows used ws table r g.ready) in
           let o = all-parts b rows used ws table r g.ready totals g.summed s in
@@ -252,7 +239,7 @@ module _ (b : List ℕ) (rows : List Row) (used ws : List ℕ) (r : Planned) (ta
           subst (λ (a : NamedPlaces). PlacedNamed p coded name order bodies a) (sym i)
           (record {
             charset = c;
-            encoding = at-is ∙ sym (encodes-offset coded (drop 16 slots) e coding.is _) ∙ ap (coded_at coded) x;
+            encoding = at-is ∙ sym (encodes-offset coded held e coding.is _) ∙ ap (coded_at coded) x;
             charstrings = d;
             size =
                 bodies-size p rows r.how.way (fds_in used) order parts g.only

@@ -1,5 +1,5 @@
 -- What the subset of a name-keyed font is written from, by what it holds: its parts, its bytes, and its outcome.
-use Rattle.std.specs.Prelude.{ℕ, ◌≡◌, refl, List}
+use Rattle.std.specs.Prelude.{ℕ, ◌≡◌, refl, List, Option}
 use Rattle.std.proofs.Common.{◌∙◌}
 use Rattle.record.specs.Record.{rows_of}
 use Rattle.cff.specs.Font.{Program}
@@ -13,21 +13,22 @@ use Rattle.order_window.specs.Stays.{Stays, stays-then}
 use Rattle.order_window.specs.declared.window.Kept.{Kept}
 use Rattle.parts.specs.Ready.{bodies_for}
 use Rattle.front.specs.declared.NamedPlaces.{NamedPlaces}
+use Rattle.encoding.specs.Encoded.{coded_in}
 use Rattle.encoding.specs.declared.Encoding.{Encoding}
 use Rattle.outcome.specs.declared.tables.Parts.{Parts}
 use Rattle.named_parts.specs.declared.named.NamedSubset.{NamedSubset}
-use Rattle.named_parts.specs.Named.{coded_for, named_tables, named_glyphs, named_outcome, NamedReady, PlacedNamed}
+use Rattle.named_parts.specs.Named.{named_tables, named_glyphs, named_outcome, NamedReady, PlacedNamed}
 
 -- the outcome of a cut, by the font, the work words and what is prepared
-abbrev pub outcome_by : List ℕ → List ℕ → Parts → Encoding → ℕ → Outcome
-outcome_by b ws parts e room =
-    named_outcome (program_of b parts.cut.plan.order.f) (coded_for e parts.slots.now) parts.name.now (glyphs_of b parts.cut.plan.order.f ws) room
+abbrev pub outcome_by : List ℕ → List ℕ → Parts → Encoding → List (Option ℕ) → ℕ → Outcome
+outcome_by b ws parts e codes room =
+    named_outcome (program_of b parts.cut.plan.order.f) (coded_in e codes) parts.name.now (glyphs_of b parts.cut.plan.order.f ws) room
     (record { way = parts.cut.plan.how.way; bodies = bodies_for b (rows_of parts.rows.now) parts.used.now ws parts.cut.plan })
 
 -- where its parts stand
-abbrev pub PlacedBy : List ℕ → List ℕ → Parts → Encoding → NamedPlaces → Type 0
-PlacedBy b ws parts e at =
-    PlacedNamed (program_of b parts.cut.plan.order.f) (coded_for e parts.slots.now) parts.name.now (glyphs_of b parts.cut.plan.order.f ws)
+abbrev pub PlacedBy : List ℕ → List ℕ → Parts → Encoding → List (Option ℕ) → NamedPlaces → Type 0
+PlacedBy b ws parts e codes at =
+    PlacedNamed (program_of b parts.cut.plan.order.f) (coded_in e codes) parts.name.now (glyphs_of b parts.cut.plan.order.f ws)
     (bodies_for b (rows_of parts.rows.now) parts.used.now ws parts.cut.plan) at
 
 module _ (c : NamedSubset) where
@@ -38,7 +39,7 @@ module _ (c : NamedSubset) where
   order_in = glyphs_of c.kept.font.now c.parts.cut.plan.order.f c.kept.words.now
 
   abbrev pub codes_in : Coded
-  codes_in = coded_for c.encoding c.parts.slots.now
+  codes_in = coded_in c.encoding c.codes.now
 
   abbrev pub bodies_in : Bodies
   bodies_in = bodies_for c.kept.font.now (rows_of c.parts.rows.now) c.parts.used.now c.kept.words.now c.parts.cut.plan
@@ -55,14 +56,14 @@ module _ (c : NamedSubset) where
 
   -- where its parts stand
   abbrev pub PlacedIn : NamedPlaces → Type 0
-  PlacedIn at = PlacedBy c.kept.font.now c.kept.words.now c.parts c.encoding at
+  PlacedIn at = PlacedBy c.kept.font.now c.kept.words.now c.parts c.encoding c.codes.now at
 
   -- the outcome of its cut, by the room of the output
   abbrev pub outcome_in : ℕ → Outcome
-  outcome_in room = outcome_by c.kept.font.now c.kept.words.now c.parts c.encoding room
+  outcome_in room = outcome_by c.kept.font.now c.kept.words.now c.parts c.encoding c.codes.now room
 
 -- it is ready for the plan's glyphs, whatever of them the window holds
-pub ready_planned : (c : NamedSubset) → NamedReady c.kept.font.now c.kept.words.now c.parts.cut.plan.order c.parts c.encoding
+pub ready_planned : (c : NamedSubset) → NamedReady c.kept.font.now c.kept.words.now c.parts.cut.plan.order c.parts c.encoding c.codes.now
 ready_planned c = record { plan = c.ready.plan; strings = c.ready.strings; codes = c.ready.codes; walked = record { f = refl; count = refl } }
 
 -- all but what the window holds
@@ -70,6 +71,7 @@ pub record Remains (old new : NamedSubset) : Type 0 where
   pub kept : Stays old.kept new.kept
   pub parts : new.parts ≡ old.parts
   pub encoding : new.encoding ≡ old.encoding
+  pub codes : new.codes ≡ old.codes
 
 -- so what is read of the rest is the same: the tables where the window of the kept glyphs alone moved
 pub tables-remain : (x : NamedSubset) (k : Kept) → Stays x.kept k
@@ -81,11 +83,12 @@ glyphs-remain x y s = λ i.
     named_glyphs (program_of (s.kept.font i) (s.parts i).cut.plan.order.f)
     (bodies_for (s.kept.font i) (rows_of (s.parts i).rows.now) (s.parts i).used.now (s.kept.words i) (s.parts i).cut.plan)
 
-pub remains-then : {x y z : NamedSubset} → Remains y z → Stays x.kept y.kept → y.parts ≡ x.parts → y.encoding ≡ x.encoding → Remains x z
-remains-then {x} {y} {z} t kept parts encoding =
-    record { kept = stays-then x.kept y.kept z.kept kept t.kept; parts = t.parts ∙ parts; encoding = t.encoding ∙ encoding }
+pub remains-then : {x y z : NamedSubset} → Remains y z → Stays x.kept y.kept → y.parts ≡ x.parts → y.encoding ≡ x.encoding → y.codes ≡ x.codes → Remains x z
+remains-then {x} {y} {z} t kept parts encoding codes =
+    record { kept = stays-then x.kept y.kept z.kept kept t.kept; parts = t.parts ∙ parts; encoding = t.encoding ∙ encoding; codes = t.codes ∙ codes }
 
 -- the outcome is that of what the subset was made of
-pub made-outcome : (c : NamedSubset) (b ws : List ℕ) (parts : Parts) (e : Encoding) → (c.kept.font.now ≡ b) × (c.kept.words.now ≡ ws) × (c.parts ≡ parts) × (c.encoding ≡ e)
-    → (room : ℕ) → outcome_in c room ≡ outcome_by b ws parts e room
-made-outcome c b ws parts e h room = λ i. outcome_by (h.0 i) (h.1 i) (h.2 i) (h.3 i) room
+pub made-outcome : (c : NamedSubset) (b ws : List ℕ) (parts : Parts) (e : Encoding) (codes : List (Option ℕ))
+    → (c.kept.font.now ≡ b) × (c.kept.words.now ≡ ws) × (c.parts ≡ parts) × (c.encoding ≡ e) × (c.codes.now ≡ codes)
+    → (room : ℕ) → outcome_in c room ≡ outcome_by b ws parts e codes room
+made-outcome c b ws parts e codes h room = λ i. outcome_by (h.0 i) (h.1 i) (h.2 i) (h.3 i) (h.4 i) room

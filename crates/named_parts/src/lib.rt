@@ -26,7 +26,7 @@ fn put_tables(c: &mut NamedSubset<'_>, out: &mut Out<'_>)
 {
     let slots = c.parts.slots;
     name_strings::put_charset_named(&mut c.kept, slots, &mut *out);
-    put_encoding(c.encoding, &slots[16..], out)
+    put_encoding(c.encoding, c.codes, out)
 }
 
 // Charstrings and Private.
@@ -88,15 +88,16 @@ pub fn put_named(c: &mut NamedSubset<'_>, at: NamedPlaces, out: &mut [u8]) -> us
 }
 
 // Measures the parts of the subset: where they stand. (It takes no `NamedSubset`, whose window it does not read. Of the words, which have the bits that
-// the plan goes by, only the contract speaks.)
+// the plan goes by, and of the codes only the contract speaks.)
 pub fn places_named(
     font: &[u8],
     words: &[u32],
     parts: &Parts<'_>,
     encoding: Encoding,
+    codes: &[Option<u32>; 256],
 ) -> NamedPlaces
-    requires { NamedReady font.now words.now parts.now.cut.plan.order parts.now encoding }
-    ensures { PlacedBy font.now words.now parts.now encoding result }
+    requires { NamedReady font.now words.now parts.now.cut.plan.order parts.now encoding codes.now }
+    ensures { PlacedBy font.now words.now parts.now encoding codes.now result }
 {
     let own = parts.cut.own;
     let r = parts.cut.plan;

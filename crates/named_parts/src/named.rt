@@ -8,13 +8,14 @@ use encoding::Encoding;
 use order_window::window::Kept;
 use outcome::tables::Parts;
 
-// The kept glyphs, the parts that are prepared for them, and what the subset has of an encoding, whose codes stand behind the sixteen slots.
+// The kept glyphs, the parts that are prepared for them, and what the subset has of an encoding, with the new ids of its codes.
 #[derive(Drop)]
 pub struct NamedSubset<'a> {
     pub kept: Kept<'a>,
     pub parts: Parts<'a>,
     pub encoding: Encoding,
-    ghost ready: { NamedReady kept.font.now kept.words.now kept.o parts encoding } by { named_ready_prop kept.font.now kept.words.now kept.o parts encoding },
+    pub codes: &'a [Option<u32>; 256],
+    ghost ready: { NamedReady kept.font.now kept.words.now kept.o parts encoding codes.now } by { named_ready_prop kept.font.now kept.words.now kept.o parts encoding codes.now },
 }
 
 impl<'a> NamedSubset<'a> {
@@ -25,9 +26,11 @@ impl<'a> NamedSubset<'a> {
         window: &'a mut [u32],
         parts: Parts<'a>,
         encoding: Encoding,
+        codes: &'a [Option<u32>; 256],
     ) -> NamedSubset<'a>
-        requires { (Gathered font.now words.now window.old parts.cut.plan.order) × (NamedReady font.now words.now parts.cut.plan.order parts encoding) }
-        ensures { (result.kept.font.now ≡ font.now) × (result.kept.words.now ≡ words.now) × (result.parts ≡ parts.entry) × (result.encoding ≡ encoding) }
+        requires { (Gathered font.now words.now window.old parts.cut.plan.order) × (NamedReady font.now words.now parts.cut.plan.order parts encoding codes.now) }
+        ensures { (result.kept.font.now ≡ font.now) × (result.kept.words.now ≡ words.now) × (result.parts ≡ parts.entry) × (result.encoding ≡ encoding)
+            × (result.codes.now ≡ codes.now) }
     {
         let kept = Kept {
             font,
@@ -39,6 +42,7 @@ impl<'a> NamedSubset<'a> {
             kept,
             parts,
             encoding,
+            codes,
         }
     }
 }

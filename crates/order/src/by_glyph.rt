@@ -5,7 +5,7 @@ ghost use Rattle.charset.specs.Ids.{ids};
 ghost use Rattle.order.specs.Order.{kept_in, rises_from, ids_for};
 ghost use Rattle.order.specs.Walks.{many_in, before_glyph, order_in, Stands, Next};
 
-use crate::{Ahead, Walk};
+use crate::{Coming, Walk};
 use cff::loaded::Loaded;
 use charset::CharsetCursor;
 use charset::ids::Ids;
@@ -50,7 +50,7 @@ pub fn next_glyphs(
         if k == m {
             return Walk {
                 done: done + k,
-                next: Ahead::Glyph { at: g, cursor: u },
+                next: Coming::Glyph { at: g, cursor: u },
             };
         }
         let s = charset::next_id(bytes, u);
@@ -63,6 +63,6 @@ pub fn next_glyphs(
     }
     Walk {
         done: done + k,
-        next: Ahead::Glyph { at: n, cursor: u },
+        next: Coming::Glyph { at: n, cursor: u },
     }
 }

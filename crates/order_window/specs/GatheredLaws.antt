@@ -12,8 +12,8 @@ use Rattle.order.specs.BitLaws.{kept-by_bits}
 use Rattle.subset.specs.KeptListLaws.{those-same}
 use Rattle.subset.specs.EachLaws.{length-mapped}
 use Rattle.kept.specs.Packed.{packed, Apart, slot_words}
-use Rattle.order.specs.declared.Ahead.{Ahead}
-use Rattle.order.specs.declared.Ahead.TheVariants.{Glyph, Cid}
+use Rattle.order.specs.declared.Coming.{Coming}
+use Rattle.order.specs.declared.Coming.TheVariants.{Glyph, Cid}
 use Rattle.order.specs.declared.Walk.{Walk}
 use Rattle.order.specs.Order.{kept_in, slots_of}
 use Rattle.order.specs.Walks.{many_in, order_in, start_of, seeks, ToCome, Stands, Next}
@@ -151,7 +151,7 @@ module _ (b : List ℕ) (f : Font) (old new : List ℕ) (same : take (words_for 
   pub same-order : order_in b f old ≡ order_in b f new
   same-order = ap (packed (program_of b f)) same-glyphs
 
-  same_ahead : (done : ℕ) (next : Ahead) → ToCome b f old done next → ToCome b f new done next
+  same_ahead : (done : ℕ) (next : Coming) → ToCome b f old done next → ToCome b f new done next
   same_ahead done (Glyph at cursor) g =
       record {
         passing = g.passing;

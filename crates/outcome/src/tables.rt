@@ -4,9 +4,13 @@ ghost use Rattle.bodies.specs.Ways.{no_ranks};
 
 use crate::Prepared;
 use bodies::NO_RANKS;
+use own_strings::slots::Slot;
 use renumber::Ranks;
 
 // By FD: which are in use, where the bits of their local subroutines stand, and the bytes of their new ones.
+// (A word of `used` is the new number and 1, 0 for none: marks become numbers in place. An `Option<u8>` is no plainer: `new_fd` and `rank_marks` alone have to do with
+// the number, and some fifty lines of contracts speak of the words.)
+// (Not one array of structs: each of the three is made by a function that is lent it alone, and says of it alone what becomes of it.)
 #[derive(Drop)]
 pub struct Tables {
     pub used: [u32; 256],
@@ -27,12 +31,12 @@ impl Tables {
     }
 }
 
-// What is prepared, the new name, the slots of the string ids of the top DICT with what stands behind them, the tables, and the record.
+// What is prepared, the new name, the slots of the string ids of the top DICT, the tables, and the record.
 #[derive(Clone, Copy)]
 pub struct Parts<'a> {
     pub cut: Prepared,
     pub name: &'a [u8],
-    pub slots: &'a [usize],
+    pub slots: &'a [Slot; 8],
     pub used: &'a [u32],
     pub table: &'a [Ranks],
     pub totals: &'a [usize],

@@ -1,12 +1,14 @@
 -- Laws for one string id at a time: the text of an id, the slot that has a text, the id that a slot is given and what is counted.
-use Rattle.std.specs.Prelude.{ℕ, zero, suc, ◌+◌, ◌-◌, ◌<◌, ◌≤◌, ◌≡◌, refl, Bool, true, false, ltb, take, get_or, set, None, Option, Some}
+use Rattle.std.specs.Prelude.{ℕ, zero, suc, ◌+◌, ◌-◌, ◌<◌, ◌≤◌, ◌≡◌, refl, Bool, true, false, cond, ltb, take, get_or, set, position, None, Option, Some}
 use Rattle.std.proofs.Math.Path.{sym, ap}
-use Rattle.std.proofs.Common.{◌∙◌, arith, get_or-drop, length-take-le}
-use mathlib.Core.List.{List, [], ◌∷◌}
+use Rattle.std.proofs.Common.{◌∙◌, arith, take_all}
+use mathlib.Core.List.{List, [], ◌∷◌, ◌++◌}
 use borrow.Author.Tests.{ltb-true, ltb-false, lt-ltb, le-ltb, eq-eqb, ne_eqb}
-use Rattle.std.proofs.Math.ListN.{length, drop}
-use Rattle.octets.specs.Octets.{put}
-use Rattle.octets.specs.PutLaws.{put-put, put_next, put-length}
+use Rattle.std.proofs.Math.ListN.{length, length-append, get_or-map}
+use Rattle.std.proofs.Math.Seq.{get_or-append-add}
+use Rattle.std.proofs.lemmas.List.{length-map, map-set, take_more, take_more_set}
+use Rattle.std.specs.List.{position_from}
+use Rattle.std.proofs.lemmas.Iterator.Adapters.{position_from-zero}
 use Rattle.index.specs.Index.{items_of}
 use Rattle.index.specs.IndexLaws.{items-length, item-short}
 use Rattle.index.specs.declared.Index.{Index}
@@ -17,36 +19,12 @@ use Rattle.dict.specs.declared.RosEntry.{RosEntry}
 use Rattle.decimal.specs.declared.Signed.{Signed}
 use Rattle.strings.specs.Strings.{string_text, sid_of}
 use Rattle.strings.proofs.StringsLaws.{string_own, string_none}
-use Rattle.subset.specs.Texts.{slot_of}
 use Rattle.own_strings.specs.declared.Own.{Own}
-use Rattle.own_strings.specs.Slots.{ros_slots, first_slots, entry_slots, slots_of, slot_with, given_or, given_id, counted}
+use Rattle.own_strings.specs.declared.slots.Slot.{Slot}
+use Rattle.own_strings.specs.Slots.{sids_of, ids_of, no_slot, ros_slots, first_slots, entry_slots, slots_of, slot_has, slot_with, given_or, given_id, counted}
 use Rattle.own_strings.specs.Ready.{HasStrings}
 
 -- ---- the slots of a top DICT
-
--- by what the DICT says of ROS
-module _ (es : List Entry) (cid : Bool) (old new : List ℕ) (found : Option RosEntry) where
-  pub first-none : cid ≡ true → found ≡ ros_in es → found ≡ None → new ≡ put old 0 (65536 ∷ 65536 ∷ []) → new ≡ put old 0 (first_slots cid es)
-  first-none c r e w = let f : ros_slots (ros_in es) ≡ 65536 ∷ 65536 ∷ [] = ap ros_slots (sym r ∙ e) in w ∙ ap (put old 0) (rw c (sym f))
-
-  pub first-ros : (registry ordering : ℕ) (s : Signed) → cid ≡ true → found ≡ ros_in es → found ≡ a_ros registry ordering s
-      → new ≡ put old 0 (registry ∷ ordering ∷ []) → new ≡ put old 0 (first_slots cid es)
-  first-ros registry ordering s c r e w = let f : ros_slots (ros_in es) ≡ registry ∷ ordering ∷ [] = ap ros_slots (sym r ∙ e) in w ∙ ap (put old 0) (rw c (sym f))
-
-pub first-name-keyed : (es : List Entry) (cid : Bool) (old new : List ℕ) → cid ≡ false → new ≡ put old 0 (65536 ∷ 65536 ∷ []) → new ≡ put old 0 (first_slots cid es)
-first-name-keyed es cid old new c w = w ∙ ap (put old 0) (rw c)
-
--- the slots of entries
-pub slots_length : (es : List Entry) (ops : List ℕ) → length (entry_slots es ops) ≡ length ops
-unfolding entry_slots
-slots_length es [] = refl
-slots_length es (op ∷ ops) = ap suc (slots_length es ops)
-
-pub slots_at : (es : List Entry) (ops : List ℕ) (k : ℕ) → k < length ops → get_or (entry_slots es ops) k 0 ≡ slot_of (id_in (get_or ops k 0) es)
-unfolding entry_slots
-slots_at es [] k h = absurd (omega arith)
-slots_at es (op ∷ ops) zero h = refl
-slots_at es (op ∷ ops) (suc k) h = slots_at es ops k (omega arith)
 
 ros-length : (r : Option RosEntry) → length (ros_slots r) ≡ 2
 ros-length None = refl
@@ -56,29 +34,92 @@ pub first-length : (cid : Bool) (es : List Entry) → length (first_slots cid es
 first-length true es = ros-length (ros_in es)
 first-length false es = refl
 
--- the slots of the entries one by one, behind the first two
-module _ (es : List Entry) (old now : List ℕ) (k : ℕ) where
-  pub put-slot-length : k ≤ 6 → now ≡ put old 2 (take k (entry_slots es copied_top_strings)) → 16 ≤ length old → length now ≡ length old
-  put-slot-length h w room =
-      let n : length (take k (entry_slots es copied_top_strings)) ≡ k = length-take-le k (entry_slots es copied_top_strings) (omega (arith, slots_length es copied_top_strings)) in
-      ap length w ∙ put-length old 2 (take k (entry_slots es copied_top_strings)) (omega (arith, n))
+pub slots_length : (es : List Entry) (ops : List ℕ) → length (entry_slots es ops) ≡ length ops
+unfolding entry_slots
+slots_length es [] = refl
+slots_length es (op ∷ ops) = ap suc (slots_length es ops)
 
-  pub put-slot : (op x : ℕ) → now ≡ put old 2 (take k (entry_slots es copied_top_strings)) → k < 6 → op ≡ get_or copied_top_strings k 0 → x ≡ slot_of (id_in op es) → 16 ≤ length old
-      → set now (2 + k) x ≡ put old 2 (take (k + 1) (entry_slots es copied_top_strings))
-  put-slot op x w h o e room =
-      let s : x ≡ get_or (entry_slots es copied_top_strings) k 0 = e ∙ ap (λ (p : ℕ). slot_of (id_in p es)) o ∙ sym (slots_at es copied_top_strings k h) in
-      ap (λ (l : List ℕ). set l (2 + k) x) w ∙ ap (set (put old 2 (take k (entry_slots es copied_top_strings))) (2 + k)) s
-      ∙ put_next old 2 (entry_slots es copied_top_strings) k (omega arith) (omega (arith, slots_length es copied_top_strings))
+slots_at : (es : List Entry) (ops : List ℕ) (k : ℕ) → k < length ops → get_or (entry_slots es ops) k None ≡ id_in (get_or ops k 0) es
+unfolding entry_slots
+slots_at es [] k h = absurd (omega arith)
+slots_at es (op ∷ ops) zero h = refl
+slots_at es (op ∷ ops) (suc k) h = slots_at es ops k (omega arith)
 
--- all slots behind the first two
-pub slots-whole : (cid : Bool) (es : List Entry) (old mid : List ℕ) → mid ≡ put old 0 (first_slots cid es)
-    → put mid 2 (entry_slots es copied_top_strings) ≡ put old 0 (slots_of cid es)
+pub slots_eight : (cid : Bool) (es : List Entry) → length (slots_of cid es) ≡ 8
 unfolding slots_of
-slots-whole cid es old mid e =
-    let n : 2 ≡ 0 + length (first_slots cid es) = omega (arith, first-length cid es) in
-    ap (λ (l : List ℕ). put l 2 (entry_slots es copied_top_strings)) e
-    ∙ ap (λ (k : ℕ). put (put old 0 (first_slots cid es)) k (entry_slots es copied_top_strings)) n
-    ∙ put-put old 0 (first_slots cid es) (entry_slots es copied_top_strings) (omega arith)
+slots_eight cid es =
+    length-append (first_slots cid es) (entry_slots es copied_top_strings) ∙ omega (arith, first-length cid es, slots_length es copied_top_strings)
+
+-- the string entries stand behind the first two
+pub entry_at : (cid : Bool) (es : List Entry) (k : ℕ) → k < 6 → get_or (slots_of cid es) (2 + k) None ≡ id_in (get_or copied_top_strings k 0) es
+unfolding slots_of
+entry_at cid es k h =
+    let n : 2 + k ≡ length (first_slots cid es) + k = omega (arith, first-length cid es) in
+    ap (λ (i : ℕ). get_or (first_slots cid es ++ entry_slots es copied_top_strings) i None) n
+    ∙ get_or-append-add (first_slots cid es) (entry_slots es copied_top_strings) k None ∙ slots_at es copied_top_strings k h
+
+module _ (cid : Bool) (es : List Entry) (j : ℕ) where
+  pub named-entry : 2 ≤ j → j < 8 → (op : ℕ) → op ≡ get_or copied_top_strings (j - 2) 0 → (sid : Option ℕ) → sid ≡ id_in op es → sid ≡ get_or (slots_of cid es) j None
+  named-entry l h op o sid e =
+      let n : 2 + (j - 2) ≡ j = omega (arith, l) in
+      e ∙ ap (λ (p : ℕ). id_in p es) o ∙ sym (entry_at cid es (j - 2) (omega (arith, l))) ∙ ap (λ (i : ℕ). get_or (slots_of cid es) i None) n
+
+  -- of a name-keyed font none
+  pub named-none : j < 2 → cid ≡ false → None ≡ get_or (slots_of cid es) j None
+  unfolding slots_of
+  named-none h c = rw c (two j h)
+    where
+      two : (i : ℕ) → i < 2 → None ≡ get_or (None ∷ None ∷ entry_slots es copied_top_strings) i None
+      two zero k = refl
+      two (suc zero) k = refl
+      two (suc (suc i)) k = absurd (omega arith)
+
+  module _ (h : j < 2) (c : cid ≡ true) (found : Option RosEntry) (r : found ≡ ros_in es) where
+    first_is : slots_of cid es ≡ ros_slots found ++ entry_slots es copied_top_strings
+    unfolding slots_of
+    first_is = rw c (ap (λ (q : Option RosEntry). ros_slots q ++ entry_slots es copied_top_strings) (sym r))
+
+    pub named-no_ros : found ≡ None → None ≡ get_or (slots_of cid es) j None
+    named-no_ros e = two j h ∙ ap (λ (l : List (Option ℕ)). get_or l j None) (sym (first_is ∙ ap (λ (q : Option RosEntry). ros_slots q ++ entry_slots es copied_top_strings) e))
+      where
+        two : (i : ℕ) → i < 2 → None ≡ get_or (None ∷ None ∷ entry_slots es copied_top_strings) i None
+        two zero k = refl
+        two (suc zero) k = refl
+        two (suc (suc i)) k = absurd (omega arith)
+
+    module _ (registry ordering : ℕ) (s : Signed) (e : found ≡ a_ros registry ordering s) where
+      there : slots_of cid es ≡ Some registry ∷ Some ordering ∷ entry_slots es copied_top_strings
+      there = first_is ∙ ap (λ (q : Option RosEntry). ros_slots q ++ entry_slots es copied_top_strings) e
+
+      pub named-registry : j ≡ 0 → Some registry ≡ get_or (slots_of cid es) j None
+      named-registry z = rw z (ap (λ (l : List (Option ℕ)). get_or l 0 None) (sym there))
+
+      pub named-ordering : (j ≡ 0 → ⊥) → Some ordering ≡ get_or (slots_of cid es) j None
+      named-ordering n =
+          let o : j ≡ 1 = omega (arith, n, h) in
+          rw o (ap (λ (l : List (Option ℕ)). get_or l 1 None) (sym there))
+
+-- a list that is made element by element
+pub turn-set : {X : Type 0} (xs ys : List X) (j : ℕ) (y d : X) → j < length xs → j < length ys → take j xs ≡ take j ys → y ≡ get_or ys j d → take (j + 1) (set xs j y) ≡ take (j + 1) ys
+turn-set {X} xs ys j y d h k e is =
+    take_more_set xs j y h ∙ ap (λ (l : List X). l ++ (y ∷ [])) e ∙ ap (λ (z : X). take j ys ++ (z ∷ [])) is ∙ sym (take_more ys j d k)
+
+pub sids-length : (slots : List Slot) → length (sids_of slots) ≡ length slots
+sids-length slots = length-map slots (λ (s : Slot). s.sid)
+
+pub ids_count : (slots : List Slot) → length (ids_of slots) ≡ length slots
+ids_count slots = length-map slots (λ (s : Slot). s.id)
+
+-- the slots so far
+pub slots-next : (cid : Bool) (es : List Entry) (slots : List Slot) (j : ℕ) → j < length slots → j < 8 → take j (sids_of slots) ≡ take j (slots_of cid es)
+    → (sid : Option ℕ) → sid ≡ get_or (slots_of cid es) j None → take (j + 1) (sids_of (set slots j (record { sid = sid; id = 0 }))) ≡ take (j + 1) (slots_of cid es)
+slots-next cid es slots j h k e sid is =
+    ap (take (j + 1)) (map-set (λ (s : Slot). s.sid) slots j (record { sid = sid; id = 0 }))
+    ∙ turn-set (sids_of slots) (slots_of cid es) j sid None (omega (arith, sids-length slots)) (omega (arith, slots_eight cid es)) e is
+
+pub slots-all : (cid : Bool) (es : List Entry) (slots : List Slot) (j : ℕ) → length slots ≡ 8 → 8 ≤ j → take j (sids_of slots) ≡ take j (slots_of cid es) → sids_of slots ≡ slots_of cid es
+slots-all cid es slots j n h e =
+    sym (take_all j (sids_of slots) (omega (arith, sids-length slots))) ∙ e ∙ take_all j (slots_of cid es) (omega (arith, slots_eight cid es))
 
 -- ---- texts
 
@@ -97,39 +138,51 @@ text-short b ix g sid h = short (ltb (sid - 391) ix.count) refl
         let k : ix.count ≤ sid - 391 = ltb-false (sid - 391) ix.count e in
         omega (arith, ap length (text-none b ix sid h k))
 
--- ---- the id that a slot is given, after n slots
+-- ---- the slot that has a text
 
-module _ (strings : List (List ℕ)) (slots : List ℕ) (n count x : ℕ) where
+with_from : (strings : List (List ℕ)) (t : List ℕ) (k : ℕ) (slots : List Slot)
+    → position_from (λ (s : Slot). slot_has strings t s.sid) k slots ≡ position_from (slot_has strings t) k (sids_of slots)
+with_from strings t k [] = refl
+with_from strings t k (s ∷ ss) = ap (cond (slot_has strings t s.sid) (Some k)) (with_from strings t (k + 1) ss)
+
+pub with-sids : (strings : List (List ℕ)) (t : List ℕ) (slots : List Slot) → position (λ (s : Slot). slot_has strings t s.sid) slots ≡ slot_with strings t (sids_of slots)
+with-sids strings t slots =
+    position_from-zero (λ (s : Slot). slot_has strings t s.sid) slots ∙ with_from strings t 0 slots ∙ sym (position_from-zero (slot_has strings t) (sids_of slots))
+
+-- ---- the id that a string id is given, after slots
+
+module _ (strings : List (List ℕ)) (slots : List Slot) (count : ℕ) (o : Option ℕ) where
   abbrev given : ℕ
-  given = given_id strings (take n slots) (drop 8 slots) count x
+  given = given_id strings (sids_of slots) (ids_of slots) count o
 
-  pub given-none : x ≡ 65536 → 0 ≡ given
+  pub given-none : o ≡ None → 0 ≡ given
   unfolding given_id
-  given-none e = rw (eq-eqb x 65536 e)
+  given-none h = rw h
 
-  pub given-low : (x ≡ 65536 → ⊥) → x < 391 → x ≡ given
-  unfolding given_id
-  given-low m h = rw (ne_eqb x 65536 m, lt-ltb x 391 h)
-
-  module _ (m : x ≡ 65536 → ⊥) (high : 391 ≤ x) (text : List ℕ) (e : text ≡ string_text strings x) (sid : Option ℕ) (s : sid ≡ sid_of text) where
-    pub given-standard : (k : ℕ) → sid ≡ Some k → k ≡ given
+  module _ (x : ℕ) (is : o ≡ Some x) where
+    pub given-low : x < 391 → x ≡ given
     unfolding given_id
-    given-standard k f =
-        let g : sid_of (string_text strings x) ≡ Some k = ap sid_of (sym e) ∙ sym s ∙ f in
-        rw (ne_eqb x 65536 m, le-ltb x 391 high, g)
+    given-low h = rw (is, lt-ltb x 391 h)
 
-    other : sid ≡ None → (r : Option ℕ) → r ≡ slot_with strings text (take n slots) → given_or (drop 8 slots) count r ≡ given
-    unfolding given_id
-    other f r w =
-        let g : sid_of (string_text strings x) ≡ None = ap sid_of (sym e) ∙ sym s ∙ f in
-        ap (given_or (drop 8 slots) count) w ∙ rw (ne_eqb x 65536 m, le-ltb x 391 high, g, e)
+    module _ (high : 391 ≤ x) (text : List ℕ) (e : text ≡ string_text strings x) (sid : Option ℕ) (s : sid ≡ sid_of text) where
+      pub given-standard : (k : ℕ) → sid ≡ Some k → k ≡ given
+      unfolding given_id
+      given-standard k f =
+          let g : sid_of (string_text strings x) ≡ Some k = ap sid_of (sym e) ∙ sym s ∙ f in
+          rw (is, le-ltb x 391 high, g)
 
-    module _ (f : sid ≡ None) (r : Option ℕ) (w : r ≡ slot_with strings text (take n slots)) where
-      pub given-slot : (j : ℕ) → r ≡ Some j → get_or slots (8 + j) 0 ≡ given
-      given-slot j q = sym (get_or-drop 8 slots j 0) ∙ sym (ap (given_or (drop 8 slots) count) q) ∙ other f r w
+      other : sid ≡ None → (r : Option ℕ) → r ≡ slot_with strings text (sids_of slots) → given_or (ids_of slots) count r ≡ given
+      unfolding given_id
+      other f r w =
+          let g : sid_of (string_text strings x) ≡ None = ap sid_of (sym e) ∙ sym s ∙ f in
+          ap (given_or (ids_of slots) count) w ∙ rw (is, le-ltb x 391 high, g, e)
 
-      pub given-next : r ≡ None → 391 + count ≡ given
-      given-next q = sym (ap (given_or (drop 8 slots) count) q) ∙ other f r w
+      module _ (f : sid ≡ None) (r : Option ℕ) (w : r ≡ slot_with strings text (sids_of slots)) where
+        pub given-slot : (j : ℕ) → r ≡ Some j → (get_or slots j no_slot).id ≡ given
+        given-slot j q = sym (get_or-map (λ (s : Slot). s.id) slots j no_slot) ∙ sym (ap (given_or (ids_of slots) count) q) ∙ other f r w
+
+        pub given-next : r ≡ None → 391 + count ≡ given
+        given-next q = sym (ap (given_or (ids_of slots) count) q) ∙ other f r w
 
 -- ---- what is counted
 

@@ -53,49 +53,28 @@ pub fn row_at(rows: &[u8], i: usize) -> Row
 fn takes_fd(cid: bool, kind: u8) -> bool
     ensures { result ≡ takes_fd cid kind }
 {
-    if cid {
-        if kind == 0 {
-            return true;
-        }
-        return kind == 3;
-    }
-    false
+    cid && (kind == 0 || kind == 3)
 }
 
 // Whether the FD of a row is 0 where it must be.
 fn fd_fine(cid: bool, kind: u8, fd: u8) -> bool
     ensures { result ≡ fd_fine cid kind fd }
 {
-    if takes_fd(cid, kind) {
-        return true;
-    }
-    fd == 0
+    takes_fd(cid, kind) || fd == 0
 }
 
 // Whether offset and length of a row are 0 where they must be.
 fn mask_fine(kind: u8, offset: u32, len: u16) -> bool
     ensures { result ≡ mask_fine kind offset len }
 {
-    if kind < 2 {
-        if offset == 0 {
-            return len == 0;
-        }
-        return false;
-    }
-    true
+    2 <= kind || offset == 0 && len == 0
 }
 
 // Whether a row's kind is known, and its fields that must be 0 are.
 fn row_fine(cid: bool, r: Row) -> bool
     ensures { result ≡ row_fine_lem cid (row_in r) }
 {
-    if 4 < r.kind {
-        return false;
-    }
-    if fd_fine(cid, r.kind, r.fd) {
-        return mask_fine(r.kind, r.offset, r.len);
-    }
-    false
+    r.kind <= 4 && fd_fine(cid, r.kind, r.fd) && mask_fine(r.kind, r.offset, r.len)
 }
 
 // Whether all rows are fine.

@@ -66,10 +66,7 @@ impl Refusal {
     pub fn known(n: u8) -> bool
         ensures { result ≡ is_refusal n }
     {
-        if n < 1 {
-            return false;
-        }
-        n <= 15
+        1 <= n && n <= 15
     }
 }
 

@@ -14,11 +14,11 @@ abbrev pub calls_of : Body → Calls
 calls_of b = calls_by b.words.now b.locals b.globals
 
 abbrev pub given_of : Body → ℕ → MaskLen
-given_of b = given_in (rows_of b.rows.now) (site_of b.site)
+given_of b = given_in (rows_of b.rows.bytes.now) (site_of b.site)
 
 -- renumbered, or that this fails; and where two lengths at one offset do not count
 abbrev pub renumbered_of : Body → Option (List ℕ)
-renumbered_of b = renumbered_body (rows_of b.rows.now) (calls_of b) (site_of b.site) b.code.now
+renumbered_of b = renumbered_body (rows_of b.rows.bytes.now) (calls_of b) (site_of b.site) b.code.now
 
 abbrev pub turned_of : Body → Option (List ℕ)
 turned_of b = renumber_charstring (calls_of b) (given_of b) b.code.now
@@ -29,6 +29,6 @@ pub record Reads (b : Body) (s ws : List ℕ) (locals globals : Ranks) (rows : L
   pub words_are : b.words.now ≡ ws
   pub locals_are : b.locals ≡ locals
   pub globals_are : b.globals ≡ globals
-  pub rows_are : b.rows.now ≡ rows
-  pub rises_so : b.rising ≡ rising
+  pub rows_are : b.rows.bytes.now ≡ rows
+  pub rises_so : b.rows.rising ≡ rising
   pub site_is : b.site ≡ site

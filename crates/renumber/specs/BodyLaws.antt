@@ -1,5 +1,5 @@
 -- A body renumbered by a walk over its tokens: the tokens read, those written, and the number that is held.
-use Rattle.std.specs.Prelude.{ℕ, ◌+◌, ◌-◌, ◌*◌, ◌≤◌, ◌≡◌, refl, Bool, true, false, ℤ, None, Option, Some}
+use Rattle.std.specs.Prelude.{ℕ, ◌+◌, ◌-◌, ◌*◌, ◌≤◌, ◌≡◌, refl, Bool, true, false, ℤ, None, Option, Some, Ok, Err}
 use Rattle.std.proofs.Common.{sym, ◌∙◌}
 use Rattle.std.proofs.Math.Path.{ap, subst}
 use Rattle.std.proofs.lemmas.Bool.{false≢true}
@@ -29,7 +29,7 @@ use Rattle.prune.specs.RenumberSteps.{written_back, renumbered_tokens}
 use Rattle.subset.specs.Pruned.{renumbered_body}
 use Rattle.renumber.specs.Turn.{call_turn, turn_of, held_after, turned_at, held_bytes_lem, sent_bytes, held_len_lem, own_len, sized_of, body_of_lem, is_yes, a_turn}
 use Rattle.renumber.specs.TurnLaws.{ahead, ahead_none, ahead-ahead, held_toks, sent_toks, sent-bytes, held_bytes, held-length, sent-length, stuck_sends, sends_same, turn_sends, turn_stuck, Onward, onward-of, failed_of}
-use Rattle.renumber.specs.declared.turns.Turn.TheVariants.{Stuck, Sends}
+use Rattle.renumber.specs.declared.turns.Stuck.{Stuck}
 use Rattle.renumber.specs.declared.Turned.{Turned}
 
 -- the tokens read, and that renumbering what is left, after what was written, is renumbering all
@@ -66,13 +66,13 @@ pub held-most : (h : Option ℤ) → held_len_lem h ≤ held_most h
 held-most None = omega arith
 held-most (Some v) = held-few (Some v)
 
-sends_most : (calls : Calls) (h : Option ℤ) (t : Token) (v : Option ℤ) → turn_of calls h t ≡ Sends v → held_len_lem v ≤ held_most h
+sends_most : (calls : Calls) (h : Option ℤ) (t : Token) (v : Option ℤ) → turn_of calls h t ≡ Ok v → held_len_lem v ≤ held_most h
 sends_most calls h (Num x) v e = subst (λ (y : Option ℤ). held_len_lem y ≤ held_most h) (sends_same h v e) (held-most h)
 sends_most calls h (Op b) v e = go h (is_call b) e
   where
-    go : (g : Option ℤ) (k : Bool) → pick k (call_turn (calls b) g) (Sends g) ≡ Sends v → held_len_lem v ≤ held_most g
+    go : (g : Option ℤ) (k : Bool) → pick k (call_turn (calls b) g) (Ok g) ≡ Ok v → held_len_lem v ≤ held_most g
     go g false f = subst (λ (y : Option ℤ). held_len_lem y ≤ held_most g) (sends_same g v f) (held-most g)
-    go None true f = absurd (stuck_sends v f)
+    go None true f = absurd (stuck_sends _ v f)
     go (Some x) true f = held-few v
 sends_most calls h (Esc b) v e = subst (λ (y : Option ℤ). held_len_lem y ≤ held_most h) (sends_same h v e) (held-most h)
 sends_most calls h (Mask start len) v e = subst (λ (y : Option ℤ). held_len_lem y ≤ held_most h) (sends_same h v e) (held-most h)
@@ -144,16 +144,16 @@ module _ (calls : Calls) (reads : (b : ℕ) (z y : ℤ) → calls b z ≡ Some y
                 ∙ ahead-ahead sent (sent_toks s v t) (renumber calls (held_after t) ts);
           }
 
-      stuck_join : (t : Token) → turn_of calls h t ≡ Stuck → (x : Option (List Tok)) → renumbered_tokens calls (join (w.read ++ (told s t ∷ [])) x) ≡ None
-      stuck_join t k None = refl
-      stuck_join t k (Some us) = ap written_back (after_read t us ∙ ap (ahead sent) (turn_stuck calls s h t us k))
+      stuck_join : (t : Token) (v : Stuck) → turn_of calls h t ≡ Err v → (x : Option (List Tok)) → renumbered_tokens calls (join (w.read ++ (told s t ∷ [])) x) ≡ None
+      stuck_join t v k None = refl
+      stuck_join t v k (Some us) = ap written_back (after_read t us ∙ ap (ahead sent) (turn_stuck calls s h t us v k))
 
       turning_failed : r ≡ None → renumbered_tokens calls (tokens_of given s) ≡ None
       turning_failed f =
           let st = step_of (token_at s (given_at given c) c) in
           failed_of calls h st (renumbered_tokens calls (tokens_of given s) ≡ None) (sym e ∙ f)
           (λ k. ap (renumbered_tokens calls) (walk-cut given s b c w.read w.walk m st refl k))
-          (λ t d k l. ap (renumbered_tokens calls) (walk_turn given s b c w.read w.walk m st refl t d k).rest ∙ stuck_join t l (tokens_from (fuel_of s d) given s d))
+          (λ t d k v l. ap (renumbered_tokens calls) (walk_turn given s b c w.read w.walk m st refl t d k).rest ∙ stuck_join t v l (tokens_from (fuel_of s d) given s d))
 
   -- ---- measuring
 

@@ -1,31 +1,20 @@
 -- Laws of one token, by the cases in which the code takes it, and of the bytes written at one.
-use Rattle.std.specs.Prelude.{ℕ, ◌+◌, ◌≤◌, ◌≡◌, refl, List, ◌++◌, Bool, true, false, eqb, ℤ, Float, length, Option, None, Some}
+use Rattle.std.specs.Prelude.{ℕ, ◌+◌, ◌≤◌, ◌≡◌, refl, List, ◌++◌, Bool, true, false, eqb, ℤ, Float, length, Option, None, Some, Result, Ok}
 use Rattle.std.proofs.Common.{sym, ap, ◌∙◌, subst, arith, length-append}
 use Rattle.octets.specs.Pick.{pick, pick_ind}
 use Rattle.charstring.specs.Bias.{bias_of}
-use Rattle.charstring.specs.declared.MaskLen.{MaskLen}
 use Rattle.charstring.specs.declared.Token.{Token}
 use Rattle.charstring.specs.declared.Token.TheVariants.{Num, Op, Esc, Mask}
-use Rattle.charstring.specs.declared.Cursor.{Cursor}
-use Rattle.charstring.specs.Token.{token_at}
-use Rattle.charstring.specs.Answers.{step_of}
-use Rattle.prune.specs.Renumber.{Calls, is_call, operand_of}
+use Rattle.prune.specs.Renumber.{is_call, operand_of}
 use Rattle.renumber.specs.Ranks.{numbers_in, calls_by, Ranked}
-use Rattle.renumber.specs.Turn.{turn_for, call_turn, turn_of, turned_by, turned_at, held_bytes_lem, own_bytes, a_turn}
+use Rattle.renumber.specs.Turn.{call_turn, turn_of, held_bytes_lem}
 use Rattle.renumber.specs.declared.Ranks.{Ranks}
-use Rattle.renumber.specs.declared.turns.Turn.{Turn}
-use Rattle.renumber.specs.declared.turns.Turn.TheVariants.{Stuck, Sends}
+use Rattle.renumber.specs.declared.turns.Stuck.{Stuck}
 
 -- ---- the number that is held, by its constructor
 
 pub held-room : (h u : Option ℤ) → h ≡ u → (at n : ℕ) → at + length (held_bytes_lem h) ≤ n → at + length (held_bytes_lem u) ≤ n
 held-room h u e at n k = subst (λ (x : Option ℤ). at + length (held_bytes_lem x) ≤ n) e k
-
--- ---- a token by its constructor
-
-module _ (s : List ℕ) (t u : Token) (e : t ≡ u) where
-  pub own_room : (to n : ℕ) → to + length (own_bytes s t) ≤ n → to + length (own_bytes s u) ≤ n
-  own_room to n k = subst (λ (x : Token). to + length (own_bytes s x) ≤ n) e k
 
 -- ---- one part after the other
 
@@ -39,9 +28,6 @@ pub called-ranked : (ws : List ℕ) (locals globals : Ranks) → Ranked ws local
     → (q : Ranks) → q ≡ pick (eqb b 10) locals globals → Ranked ws q
 called-ranked ws locals globals l g t b e q f = subst (Ranked ws) (sym f) (pick_ind (Ranked ws) (eqb b 10) locals globals (λ u. l) (λ u. g))
 
-pub call_held : (operand : ℤ → Option ℤ) (h : Option ℤ) (v : ℤ) (r : Turn) → h ≡ Some v → r ≡ turn_for (operand v) → r ≡ call_turn operand h
-call_held operand h v r e f = f ∙ ap (call_turn operand) (sym e)
-
 module _ (ws : List ℕ) (locals globals : Ranks) (h : Option ℤ) (t : Token) where
   -- the subroutines of which a call calls one, by its operator
   called-turn : (b : ℕ) (u : Bool) (g : Option ℤ) → eqb b 10 ≡ u → is_call b ≡ true
@@ -54,41 +40,22 @@ module _ (ws : List ℕ) (locals globals : Ranks) (h : Option ℤ) (t : Token) w
 
   module _ (b : ℕ) (e : t ≡ Op b) where
     pub turn-called : is_call b ≡ true → (q : Ranks) → q ≡ pick (eqb b 10) locals globals
-        → (r : Turn) → r ≡ call_turn (operand_of (numbers_in ws q) (bias_of q.count) (bias_of q.reached)) h → r ≡ turn_of (calls_by ws locals globals) h t
+        → (r : Result (Option ℤ) Stuck) → r ≡ call_turn (operand_of (numbers_in ws q) (bias_of q.count) (bias_of q.reached)) h → r ≡ turn_of (calls_by ws locals globals) h t
     turn-called c q f r g =
         g ∙ ap (λ (x : Ranks). call_turn (operand_of (numbers_in ws x) (bias_of x.count) (bias_of x.reached)) h) f ∙ called-turn b (eqb b 10) h refl c
         ∙ ap (turn_of (calls_by ws locals globals) h) (sym e)
 
-    other : is_call b ≡ false → Sends h ≡ turn_of (calls_by ws locals globals) h (Op b)
+    other : is_call b ≡ false → Ok h ≡ turn_of (calls_by ws locals globals) h (Op b)
     other c = rw c
 
-    pub turn_other : is_call b ≡ false → Sends h ≡ turn_of (calls_by ws locals globals) h t
+    pub turn_other : is_call b ≡ false → Ok h ≡ turn_of (calls_by ws locals globals) h t
     turn_other c = other c ∙ ap (turn_of (calls_by ws locals globals) h) (sym e)
 
-  pub turn-num : (v : Float) → t ≡ Num v → Sends h ≡ turn_of (calls_by ws locals globals) h t
+  pub turn-num : (v : Float) → t ≡ Num v → Ok h ≡ turn_of (calls_by ws locals globals) h t
   turn-num v e = ap (turn_of (calls_by ws locals globals) h) (sym e)
 
-  pub turn-esc : (b : ℕ) → t ≡ Esc b → Sends h ≡ turn_of (calls_by ws locals globals) h t
+  pub turn-esc : (b : ℕ) → t ≡ Esc b → Ok h ≡ turn_of (calls_by ws locals globals) h t
   turn-esc b e = ap (turn_of (calls_by ws locals globals) h) (sym e)
 
-  pub turn-mask : (start len : ℕ) → t ≡ Mask start len → Sends h ≡ turn_of (calls_by ws locals globals) h t
+  pub turn-mask : (start len : ℕ) → t ≡ Mask start len → Ok h ≡ turn_of (calls_by ws locals globals) h t
   turn-mask start len e = ap (turn_of (calls_by ws locals globals) h) (sym e)
-
--- ---- a step
-
-module _ (calls : Calls) (h : Option ℤ) (s : List ℕ) (c : Cursor) (given : MaskLen) (g : MaskLen) (k : g ≡ given) (r : Option (Token × Cursor)) (e : r ≡ step_of (token_at s g c)) where
-  stepped : r ≡ step_of (token_at s given c)
-  stepped = e ∙ ap (λ (x : MaskLen). step_of (token_at s x c)) k
-
-  pub turned_lost : r ≡ None → None ≡ turned_at calls h (step_of (token_at s given c))
-  turned_lost f = ap (turned_at calls h) (sym f ∙ stepped)
-
-  module _ (t : Token) (d : Cursor) (f : r ≡ Some (t, d)) (q : Turn) (j : q ≡ turn_of calls h t) where
-    by_turn : turned_by q t d ≡ turned_at calls h (step_of (token_at s given c))
-    by_turn = ap (λ (x : Turn). turned_by x t d) j ∙ ap (turned_at calls h) (sym f ∙ stepped)
-
-    pub turned_stuck : q ≡ Stuck → None ≡ turned_at calls h (step_of (token_at s given c))
-    turned_stuck l = ap (λ (x : Turn). turned_by x t d) (sym l) ∙ by_turn
-
-    pub turned_sends : (v : Option ℤ) → q ≡ Sends v → a_turn v t d ≡ turned_at calls h (step_of (token_at s given c))
-    turned_sends v l = ap (λ (x : Turn). turned_by x t d) (sym l) ∙ by_turn

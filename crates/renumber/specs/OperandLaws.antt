@@ -1,31 +1,21 @@
 -- Laws of a call's new operand: by the rank of the subroutine that the old operand names; it is a reading.
-use Rattle.std.specs.Prelude.{ℕ, zero, suc, ◌+◌, ◌-◌, ◌*◌, ◌/◌, ◌%◌, ◌≤◌, ◌<◌, ◌≡◌, refl, Bool, true, false, List, ltb, eqb, ℤ, pos, negsuc, None, Option, Some, SomeIff}
-use Rattle.std.proofs.Common.{sym, ap, ◌∙◌, subst, true≢false, div-lt_iff_lt-mul, div-mul-le_self, arith, ltb-true, lt-ltb, eq-eqb, ne_eqb, le-leb}
-use Rattle.std.proofs.lemmas.Bool.{false≢true, lt-leb}
+use Rattle.std.specs.Prelude.{ℕ, zero, suc, ◌+◌, ◌-◌, ◌*◌, ◌/◌, ◌≤◌, ◌<◌, ◌≡◌, refl, Bool, true, false, List, ltb, eqb, ℤ, None, Option, Some}
+use Rattle.std.proofs.Common.{sym, ap, ◌∙◌, subst, div-lt_iff_lt-mul, div-mul-le_self, arith, ltb-true, lt-ltb}
 use Rattle.std.proofs.Math.Nat.{lt-div-mul-add}
 use Rattle.octets.specs.Pick.{pick, pick_ind}
-use Rattle.type2_number.specs.Number.{is_neg, mag, whole, rounded, Reading}
+use Rattle.type2_number.specs.Number.{whole, rounded, Reading}
 use Rattle.bits.specs.Bits.{count_below, words_for, bit_in, below, eighth, sum_below, low_sums, sum_in}
 use Rattle.bits.specs.BitsLaws.{count-alike}
 use Rattle.bits.specs.SumsLaws.{sum_is}
 use Rattle.charstring.specs.Bias.{bias_of, numbered}
+use Rattle.charstring.specs.BiasLaws.{bias_few}
 use Rattle.subset.specs.RankLaws.{count-below}
 use Rattle.prune.specs.StepLaws.{zero_one}
 use Rattle.prune.specs.Renumber.{operand_of}
 use Rattle.prune.specs.RenumberSteps.{new_of, operand_for}
 use Rattle.prune.specs.OperandLaws.{operand_reading}
 use Rattle.renumber.specs.Ranks.{numbers_in, calls_by, Ranked}
-use Rattle.renumber.specs.Turn.{turn_for}
 use Rattle.renumber.specs.declared.Ranks.{Ranks}
-use Rattle.renumber.specs.declared.turns.Turn.TheVariants.{Stuck, Sends}
-
-bias_small : (count : ℕ) → bias_of count ≤ 32768
-bias_small count =
-    pick_ind (λ (b : ℕ). b ≤ 32768) (ltb count 1240) 107 (pick (ltb count 33900) 1131 32768) (λ t. omega arith)
-    (λ t. pick_ind (λ (b : ℕ). b ≤ 32768) (ltb count 33900) 1131 32768 (λ u. omega arith) (λ u. omega arith))
-
-pub bias_few : (b count : ℕ) → b ≡ bias_of count → b ≤ 32768
-bias_few b count e = subst (λ (k : ℕ). k ≤ 32768) (sym e) (bias_small count)
 
 -- a number below the count is no further from the bias than an integer of 16 bits reaches
 pub bias-near : (b count i : ℕ) → b ≡ bias_of count → i < count → count ≤ 65536 → (i ≤ b + 32768) × (b ≤ i + 32768)
@@ -136,42 +126,6 @@ module _ (ws : List ℕ) (q : Ranks) (good : Ranked ws q) (i : ℕ) (h : i < q.c
         let r : a + m ≡ i = let z = eighth-front in omega arith in
         ap (λ (x : ℕ). x + m) s ∙ sym (count-whole same a m (32 * e) c (let z = eighth-front in omega arith)) ∙ ap (count_below same) r ∙ counted i (omega arith)
 
--- ---- the subroutine that an operand names, as the code finds it
-
-module _ (bias : ℕ) where
-  fraction : (z : ℤ) → (mag z % 65536 ≡ 0 → ⊥) → None ≡ numbered bias z
-  fraction (pos m) k = rw (ne_eqb (m % 65536) 0 k)
-  fraction (negsuc m) k = rw (ne_eqb (suc m % 65536) 0 k)
-
-  before-first : (z : ℤ) → is_neg z ≡ true → mag z % 65536 ≡ 0 → bias < mag z / 65536 → None ≡ numbered bias z
-  before-first (pos m) u k l = absurd (false≢true u)
-  before-first (negsuc m) u k l = rw (eq-eqb (suc m % 65536) 0 k, lt-leb (suc m / 65536) bias l)
-
-  down : (z : ℤ) → is_neg z ≡ true → mag z % 65536 ≡ 0 → mag z / 65536 ≤ bias → Some (bias - mag z / 65536) ≡ numbered bias z
-  down (pos m) u k l = absurd (false≢true u)
-  down (negsuc m) u k l = rw (eq-eqb (suc m % 65536) 0 k, le-leb (suc m / 65536) bias l)
-
-  up : (z : ℤ) → is_neg z ≡ false → mag z % 65536 ≡ 0 → Some (mag z / 65536 + bias) ≡ numbered bias z
-  up (pos m) u k = rw (eq-eqb (m % 65536) 0 k)
-  up (negsuc m) u k = absurd (true≢false u)
-
-  module _ (z : ℤ) (size : ℕ) (g : size ≡ mag z) where
-    pub number-fraction : (size % 65536 ≡ 0 → ⊥) → None ≡ numbered bias z
-    number-fraction n = fraction z (λ e. n (ap (λ (k : ℕ). k % 65536) g ∙ e))
-
-    module _ (neg : Bool) (n : neg ≡ is_neg z) (h : size % 65536 ≡ 0) (added : ℕ) (a : added ≡ bias) where
-      even : mag z % 65536 ≡ 0
-      even = ap (λ (k : ℕ). k % 65536) (sym g) ∙ h
-
-      pub number-down : neg ≡ true → (r : Option ℕ) → SomeIff r (size / 65536 ≤ added) (added - size / 65536) → r ≡ numbered bias z
-      number-down t None o = before-first z (sym n ∙ t) even (subst (λ (k : ℕ). bias < k / 65536) g (subst (λ (k : ℕ). k < size / 65536) a (omega (arith, o))))
-      number-down t (Some x) o =
-          ap Some (o.1 ∙ ap (λ (k : ℕ). k - size / 65536) a ∙ ap (λ (k : ℕ). bias - k / 65536) g)
-          ∙ down z (sym n ∙ t) even (subst (λ (k : ℕ). k / 65536 ≤ bias) g (subst (λ (k : ℕ). size / 65536 ≤ k) a o.0))
-
-      pub number_up : neg ≡ false → Some (size / 65536 + added) ≡ numbered bias z
-      number_up t = ap (λ (k : ℕ). Some (size / 65536 + k)) a ∙ ap (λ (k : ℕ). Some (k / 65536 + bias)) g ∙ up z (sym n ∙ t) even
-
 -- ---- the new number
 
 module _ (ws : List ℕ) (q : Ranks) (good : Ranked ws q) where
@@ -193,10 +147,6 @@ module _ (ws : List ℕ) (q : Ranks) (good : Ranked ws q) where
     becomes_by : (x : Option ℕ) → r ≡ x → operand_for (bias_of q.reached) x ≡ operand_of (numbers_in ws q) (bias_of q.count) (bias_of q.reached) z
     becomes_by x f = ap (operand_for (bias_of q.reached)) (sym f ∙ e)
 
-    -- no rank: the renumbering fails
-    pub operand_stuck : r ≡ None → Stuck ≡ turn_for (operand_of (numbers_in ws q) (bias_of q.count) (bias_of q.reached) z)
-    operand_stuck f = ap turn_for (becomes_by None f)
-
     module _ (n : ℕ) (f : r ≡ Some n) where
       pub rank-small : n < q.reached
       rank-small = go (numbered (bias_of q.count) z) (sym e ∙ f)
@@ -210,11 +160,11 @@ module _ (ws : List ℕ) (q : Ranks) (good : Ranked ws q) where
       rank-near b a = bias-near b q.reached n a rank-small (omega (arith, good.few_reached))
 
       -- the rank is the new number
-      pub operand_sends : (b : ℕ) → b ≡ bias_of q.reached → (v : ℤ) → v ≡ rounded (whole n b)
-          → Sends (Some v) ≡ turn_for (operand_of (numbers_in ws q) (bias_of q.count) (bias_of q.reached) z)
-      operand_sends b a v g =
+      pub operand_some : (b : ℕ) → b ≡ bias_of q.reached → (v : ℤ) → v ≡ rounded (whole n b)
+          → Some v ≡ operand_of (numbers_in ws q) (bias_of q.count) (bias_of q.reached) z
+      operand_some b a v g =
           let k = becomes_by (Some n) f in
-          ap (λ (x : ℤ). Sends (Some x)) (g ∙ ap (λ (c : ℕ). rounded (whole n c)) a ∙ (operand_reads z (whole n (bias_of q.reached)) (sym k)).kept) ∙ ap turn_for k
+          ap Some (g ∙ ap (λ (c : ℕ). rounded (whole n c)) a ∙ (operand_reads z (whole n (bias_of q.reached)) (sym k)).kept) ∙ k
 
 -- the operands of calls are readings
 pub calls-read : (ws : List ℕ) (locals globals : Ranks) → Ranked ws locals → Ranked ws globals → (b : ℕ) (z y : ℤ) → calls_by ws locals globals b z ≡ Some y → Reading y

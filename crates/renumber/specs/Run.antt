@@ -2,9 +2,10 @@
 -- call and has no mask behind it. A run is copied byte for byte, but for a number that stands last: it is held, since a call may follow.
 use Rattle.std.specs.Prelude.{ℕ, ◌+◌, ◌-◌, ◌*◌, ◌≤◌, ◌<◌, ◌≡◌, Bool, true, false, not, List, ◌++◌, ltb, eqb, ℤ, length, take, drop, get_or, Some, None, Option}
 use Rattle.octets.specs.Pick.{pick}
-use Rattle.type2_number.specs.Number.{Read, cut, operator, number, number_at, Reading}
+use Rattle.type2_number.specs.Number.{Reading}
 use Rattle.charstring.specs.declared.MaskLen.{MaskLen}
 use Rattle.charstring.specs.declared.Cursor.{Cursor}
+use Rattle.charstring.specs.Bias.{last_at}
 use Rattle.charstring.specs.Token.{Tok}
 use Rattle.charstring.specs.Encode.{encode}
 use Rattle.prune.specs.Renumber.{Calls}
@@ -53,15 +54,6 @@ part s from to = take (to - from) (drop from s)
 abbrev pub run_bytes : List ℕ → Option ℤ → ℕ → ℕ → List ℕ
 run_bytes s h from last = held_bytes_lem h ++ part s from last
 
--- the number that a run holds back: the one that starts at `last`, where the run ends behind that
-abbrev pub held_of : Read → Option ℤ
-held_of cut = None
-held_of operator = None
-held_of (number z n) = Some z
-
-abbrev pub held_in : List ℕ → ℕ → ℕ → Option ℤ
-held_in s last at = pick (ltb last at) (held_of (number_at s last)) None
-
 -- a walk that stands at a cursor with a number held has written these bytes
 pub record Standing (calls : Calls) (given : ℕ → MaskLen) (s : List ℕ) (c : Cursor) (h : Option ℤ) (bs : List ℕ) : Type 0 where
   pub sent : List Tok
@@ -79,4 +71,4 @@ pub record RunFrom (s : List ℕ) (c : Cursor) (r : Run) : Type 0 where
   pub ends : r.last ≤ r.at
   pub inside : r.at ≤ length s
   pub passes : c.at < r.at → (h : Option ℤ)
-      → Passes s c h (cursor r.at r.args r.stems false) (held_in s r.last r.at) (run_bytes s h c.at r.last)
+      → Passes s c h (cursor r.at r.args r.stems false) (last_at s r.last r.at) (run_bytes s h c.at r.last)

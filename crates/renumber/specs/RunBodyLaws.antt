@@ -7,6 +7,7 @@ use Rattle.octets.specs.PutLaws.{wrote_then, wrote_as, wrote-length}
 use Rattle.type2_number.specs.Number.{number_at, Reading}
 use Rattle.charstring.specs.declared.MaskLen.{MaskLen}
 use Rattle.charstring.specs.declared.Cursor.{Cursor}
+use Rattle.charstring.specs.Bias.{last_of, last_at}
 use Rattle.charstring.specs.Token.{Tok, tokens_of}
 use Rattle.charstring.specs.Encode.{encode}
 use Rattle.charstring.specs.TokensLaws.{fuel_of}
@@ -15,7 +16,7 @@ use Rattle.prune.specs.RenumberSteps.{renumbered_tokens}
 use Rattle.renumber.specs.Turn.{cursor, held_bytes_lem, held_len_lem}
 use Rattle.renumber.specs.TurnLaws.{held-length}
 use Rattle.renumber.specs.BodyLaws.{Turning, held_most, Sizing, Putting, held-most, sent-within, same_length}
-use Rattle.renumber.specs.Run.{part, run_bytes, held_of, held_in, Standing, RunFrom}
+use Rattle.renumber.specs.Run.{part, run_bytes, Standing, RunFrom}
 use Rattle.renumber.specs.declared.runs.Run.{Run}
 
 part_length : (s : List ℕ) (from to : ℕ) → to ≤ length s → length (part s from to) ≡ to - from
@@ -30,10 +31,10 @@ run_length s h from last k =
     omega arith
 
 -- a number that is held back had a byte
-most_in : (s : List ℕ) (last at : ℕ) → held_most (held_in s last at) + 5 * last ≤ 5 * at + 5 * (last - at)
+most_in : (s : List ℕ) (last at : ℕ) → held_most (last_at s last at) + 5 * last ≤ 5 * at + 5 * (last - at)
 most_in s last at =
-    pick_ind (λ (g : Option ℤ). held_most g + 5 * last ≤ 5 * at + 5 * (last - at)) (ltb last at) (held_of (number_at s last)) None
-    (λ e. let l = ltb-true last at e in let m = five (held_of (number_at s last)) in omega arith) (λ e. omega arith)
+    pick_ind (λ (g : Option ℤ). held_most g + 5 * last ≤ 5 * at + 5 * (last - at)) (ltb last at) (last_of (number_at s last)) None
+    (λ e. let l = ltb-true last at e in let m = five (last_of (number_at s last)) in omega arith) (λ e. omega arith)
   where
     five : (g : Option ℤ) → held_most g ≤ 5
     five None = omega arith
@@ -43,11 +44,11 @@ module _ (calls : Calls) (reads : (b : ℕ) (z y : ℤ) → calls b z ≡ Some y
     (c : Cursor) (r : Run) (run : RunFrom s c r) (on : c.at < r.at) where
   -- where the walk stands after the run
   after_run : (h : Option ℤ) (sent : List Tok) → Turning calls given s c h sent
-      → Standing calls given s (cursor r.at r.args r.stems false) (held_in s r.last r.at) (encode sent ++ run_bytes s h c.at r.last)
+      → Standing calls given s (cursor r.at r.args r.stems false) (last_at s r.last r.at) (encode sent ++ run_bytes s h c.at r.last)
   after_run h sent w = (run.passes on h).goes calls reads given (encode sent) (record { sent = sent; turning = w; written = refl })
 
   pub sizing_run : (h : Option ℤ) (len : ℕ) → Sizing calls given s c h len → (n : ℕ) → n ≡ held_len_lem h + (r.last - c.at)
-      → (k : Option ℤ) → k ≡ held_in s r.last r.at → Sizing calls given s (cursor r.at r.args r.stems false) k (len + n)
+      → (k : Option ℤ) → k ≡ last_at s r.last r.at → Sizing calls given s (cursor r.at r.args r.stems false) k (len + n)
   sizing_run h len w n e k f =
       let q = after_run h w.sent w.turning in
       let inside : r.last ≤ length s = omega (arith, run.ends, run.inside) in
@@ -65,13 +66,13 @@ module _ (calls : Calls) (reads : (b : ℕ) (z y : ℤ) → calls b z ≡ Some y
     pub putting_run-room : p + length (run_bytes s h c.at r.last) ≤ length new
     putting_run-room =
         let q = after_run h w.sent w.turning in
-        let x = sent-within calls reads given s b (cursor r.at r.args r.stems false) (held_in s r.last r.at) q.sent q.turning bs y in
+        let x = sent-within calls reads given s b (cursor r.at r.args r.stems false) (last_at s r.last r.at) q.sent q.turning bs y in
         let k : length (encode q.sent) ≡ length (encode w.sent) + length (run_bytes s h c.at r.last)
         = ap length q.written ∙ length-append (encode w.sent) (run_bytes s h c.at r.last) in
         let n = same_length calls reads given s b old to bs y room c h new p w in
         omega (arith, w.wrote.behind)
 
-    pub putting_run : (newer : List ℕ) (q : ℕ) → Wrote new p (run_bytes s h c.at r.last) newer q → (k : Option ℤ) → k ≡ held_in s r.last r.at
+    pub putting_run : (newer : List ℕ) (q : ℕ) → Wrote new p (run_bytes s h c.at r.last) newer q → (k : Option ℤ) → k ≡ last_at s r.last r.at
         → Putting calls given s old to (cursor r.at r.args r.stems false) k newer q × (length newer ≡ length new)
     putting_run newer q u k j =
         let x = after_run h w.sent w.turning in (

@@ -1,18 +1,15 @@
 -- Laws of runs of plain tokens: a token passes, passes follow one another, and the loop that takes a run keeps what a run is.
-use Rattle.std.specs.Prelude.{ℕ, ◌+◌, ◌-◌, ◌≤◌, ◌<◌, ◌≡◌, Bool, length, take, drop, get_or, None, Option, Some, ℤ}
+use Rattle.std.specs.Prelude.{ℕ, ◌+◌, ◌-◌, ◌≤◌, ◌<◌, ◌≡◌, Bool, length, take, drop, get_or, None, Option, Some, Result, Ok, ℤ}
 use Rattle.std.proofs.Math.Path.{refl, ap, subst}
 use Rattle.std.proofs.Common.{sym, ◌∙◌, arith, take-add, drop-drop}
 use Rattle.std.proofs.Math.Bool.{true, false}
 use Rattle.std.proofs.lemmas.Bool.{false≢true}
 use mathlib.Core.List.{List, [], ◌∷◌, ◌++◌, append_assoc, append-nil}
-use borrow.Author.Tests.{lt-ltb, le-ltb, ne_eqb}
+use borrow.Author.Tests.{lt-ltb, ne_eqb}
 use Rattle.octets.specs.Pick.{pick}
 use Rattle.octets.specs.Octets.{Octets}
-use Rattle.type2_number.specs.Number.{Read, cut, operator, number, number_at}
+use Rattle.type2_number.specs.Number.{Read}
 use Rattle.type2_number.specs.Floats.{float_of}
-use Rattle.type2_number.specs.Answers.{number_of}
-use Rattle.type2_number.specs.declared.Number.{Number as Answer}
-use Rattle.type2_number.specs.declared.Number.TheVariants.{Num as NumAt, Cut, Operator}
 use Rattle.type2_number.specs.NumberLaws.{OperatorByte, form_op}
 use Rattle.type2_number.specs.Readings.{back-reading}
 use Rattle.charstring.specs.declared.MaskLen.{MaskLen}
@@ -20,6 +17,8 @@ use Rattle.charstring.specs.declared.MaskLen.TheVariants.{Own}
 use Rattle.charstring.specs.declared.Token.{Token}
 use Rattle.charstring.specs.declared.Token.TheVariants.{Num, Op}
 use Rattle.charstring.specs.declared.Cursor.{Cursor}
+use Rattle.charstring.specs.Bias.{last_at}
+use Rattle.charstring.specs.BiasLaws.{last_none}
 use Rattle.charstring.specs.Token.{is_mask, stems_after, plain_at, operator_at, token_at}
 use Rattle.charstring.specs.Encode.{encode}
 use Rattle.charstring.specs.Answers.{step_of, Within}
@@ -29,11 +28,10 @@ use Rattle.prune.specs.Renumber.{Calls, is_call}
 use Rattle.renumber.specs.Turn.{call_turn, turn_of, held_after, cursor, turned_by, turned_at, held_bytes_lem, sent_bytes}
 use Rattle.renumber.specs.TurnLaws.{sent_toks, sent-bytes}
 use Rattle.renumber.specs.BodyLaws.{turning_turn}
-use Rattle.renumber.specs.Run.{is_plain, is_operator, plain_len, part, held_of, held_in, Standing, Passes, RunFrom}
+use Rattle.renumber.specs.Run.{is_plain, is_operator, plain_len, part, Standing, Passes, RunFrom}
 use Rattle.renumber.specs.ShortLaws.{ShortAt, none_there, short-at, operates_told, part-one}
 use Rattle.renumber.specs.declared.runs.Run.{Run}
-use Rattle.renumber.specs.declared.turns.Turn.{Turn}
-use Rattle.renumber.specs.declared.turns.Turn.TheVariants.{Sends}
+use Rattle.renumber.specs.declared.turns.Stuck.{Stuck}
 
 -- ---- passes
 
@@ -74,14 +72,14 @@ module _ (s : List ℕ) (b : Octets s) (at args stems : ℕ) (h : at < length s)
     token-within w =
         (next_of s (cursor at args stems false) Own b w (lt-ltb at (length s) h) (step_of (token_at s Own (cursor at args stems false))) refl t d st).moves.within
 
-    token-passes : ((calls : Calls) (g : Option ℤ) → turn_of calls g t ≡ Sends g) → (g : Option ℤ) → Passes s (cursor at args stems false) g d (held_after t) (sent_bytes s g t)
+    token-passes : ((calls : Calls) (g : Option ℤ) → turn_of calls g t ≡ Ok g) → (g : Option ℤ) → Passes s (cursor at args stems false) g d (held_after t) (sent_bytes s g t)
     token-passes sends g =
         record {
           goes = λ calls reads given pre w. record {
             sent = w.sent ++ sent_toks s g t;
             turning = turning_turn calls reads given s b (cursor at args stems false) g w.sent w.turning (lt-ltb at (length s) h)
                 (turned_at calls g (step_of (token_at s Own (cursor at args stems false)))) refl g t d
-                (ap (turned_at calls g) st ∙ ap (λ (q : Turn). turned_by q t d) (sends calls g));
+                (ap (turned_at calls g) st ∙ ap (λ (q : Result (Option ℤ) Stuck). turned_by q t d) (sends calls g));
             written = encode-append w.sent (sent_toks s g t) ∙ ap (λ (l : List ℕ). l ++ encode (sent_toks s g t)) w.written
                 ∙ ap (λ (l : List ℕ). pre ++ l) (sent-bytes s g t);
           };
@@ -112,7 +110,7 @@ module _ (s : List ℕ) (b : Octets s) (at args stems : ℕ) (h : at < length s)
         (held_bytes_lem g ++ (get_or s at 0 ∷ []))
     operator-passes g =
         token-passes (Op (get_or s at 0)) (cursor (at + 1) 0 (stems_after (get_or s at 0) args stems) false) operator-step
-        (λ calls k. ap (λ (t : Bool). pick t (call_turn (calls (get_or s at 0)) k) (Sends k)) no_call) g
+        (λ calls k. ap (λ (t : Bool). pick t (call_turn (calls (get_or s at 0)) k) (Ok k)) no_call) g
 
   module _ (n : ℕ) (short : ShortAt s at n) where
     number_step : step_of (token_at s Own (cursor at args stems false)) ≡ Some (Num (float_of short.value), cursor n (args + 1) stems false)
@@ -127,27 +125,8 @@ module _ (s : List ℕ) (b : Octets s) (at args stems : ℕ) (h : at < length s)
     number-own : held_bytes_lem (Some short.value) ≡ part s at n
     number-own = short.own
 
-    number-held : Some short.value ≡ held_in s at n
+    number-held : Some short.value ≡ last_at s at n
     number-held = rw (lt-ltb at n short.further, short.reads)
-
--- ---- the number that is held, as the code finds it
-
-abbrev held_by_lem : Answer → Option ℤ
-held_by_lem (NumAt v n) = Some v
-held_by_lem Cut = None
-held_by_lem Operator = None
-
-held_by : (q : Read) → held_by_lem (number_of q) ≡ held_of q
-held_by cut = refl
-held_by operator = refl
-held_by (number z n) = refl
-
-module _ (s : List ℕ) (last at : ℕ) where
-  pub held-read : last < at → (r : Answer) → r ≡ number_of (number_at s last) → (u : Answer) → r ≡ u → held_by_lem u ≡ held_in s last at
-  held-read h r e u f = rw (lt-ltb last at h) (ap held_by_lem (sym f ∙ e) ∙ held_by (number_at s last))
-
-  pub held_none : at ≤ last → None ≡ held_in s last at
-  held_none h = rw (le-ltb last at h)
 
 -- ---- the loop that takes a run
 
@@ -220,7 +199,7 @@ module _ (s : List ℕ) (b : Octets s) (c : Cursor) (at last args stems : ℕ) (
           starts = omega (arith, from_at);
           ends = omega arith;
           inside = omega arith;
-          passes = λ l g. passes-held (held_none s (at + 1) (at + 1) (omega arith)) (passes_as (ap (λ (x : List ℕ). held_bytes_lem g ++ x) own) (w.carries next None (get_or s at 0 ∷ []) one g));
+          passes = λ l g. passes-held (last_none s (at + 1) (at + 1) (omega arith)) (passes_as (ap (λ (x : List ℕ). held_bytes_lem g ++ x) own) (w.carries next None (get_or s at 0 ∷ []) one g));
         };
         within = token-within s b at args stems h (Op (get_or s at 0)) next (operator-step s b at args stems h low plain) w.within;
         carries = carries_as s c next _ _ own (carries_on s c (cursor at args stems false) next None (part s c.at at) (get_or s at 0 ∷ []) w.carries one);

@@ -1,38 +1,35 @@
 -- A body renumbered token by token (the Rust's renumber_charstring; document 01, 'Corners in write.rs'), as the code goes: a number token is
 -- held until the next token, which writes it as it is, or, being a call, its new operand. The code's answers for what the definitions say.
-use Rattle.std.specs.Prelude.{ℕ, ◌≤◌, ◌≡◌, Bool, true, false, List, [], ◌∷◌, ◌++◌, ℤ, length, take, drop, None, Option, Some, Float}
+use Rattle.std.specs.Prelude.{ℕ, ◌≤◌, Bool, true, false, List, [], ◌++◌, ℤ, length, None, Option, Some, Result, Ok, Err, Float}
 use Rattle.octets.specs.Pick.{pick}
 use Rattle.type2_number.specs.Encoding.{encoded}
 use Rattle.type2_number.specs.Floats.{scaled_of}
 use Rattle.charstring.specs.declared.Token.{Token}
 use Rattle.charstring.specs.declared.Token.TheVariants.{Num, Op, Esc, Mask}
 use Rattle.charstring.specs.declared.Cursor.{Cursor}
-use Rattle.unfold.specs.Unfold.{Row}
+use Rattle.charstring.specs.Answers.{token_bytes, token_len_lem}
 use Rattle.prune.specs.Renumber.{Calls, is_call}
-use Rattle.unfold.specs.declared.Site.{Site}
-use Rattle.reach.specs.Reach.{rises}
 use Rattle.renumber.specs.Ranks.{Ranked}
 use Rattle.renumber.specs.declared.Ranks.{Ranks}
-use Rattle.renumber.specs.declared.turns.Turn.{Turn}
-use Rattle.renumber.specs.declared.turns.Turn.TheVariants.{Stuck, Sends}
+use Rattle.renumber.specs.declared.turns.Stuck.{Stuck}
 use Rattle.renumber.specs.declared.Turned.{Turned}
 
--- what a call's operand becomes
-abbrev pub turn_for : Option ℤ → Turn
-turn_for None = Stuck
-turn_for (Some z) = Sends (Some z)
+-- what a call's operand becomes: where there is none the renumbering fails
+abbrev pub turn_for : Option ℤ → Result (Option ℤ) Stuck
+turn_for None = Err (record {})
+turn_for (Some z) = Ok (Some z)
 
 -- a call takes the number just before it
-abbrev pub call_turn : (ℤ → Option ℤ) → Option ℤ → Turn
-call_turn operand None = Stuck
+abbrev pub call_turn : (ℤ → Option ℤ) → Option ℤ → Result (Option ℤ) Stuck
+call_turn operand None = Err (record {})
 call_turn operand (Some v) = turn_for (operand v)
 
 -- what a token brings: the number that is written just before it
-abbrev pub turn_of : Calls → Option ℤ → Token → Turn
-turn_of calls h (Num v) = Sends h
-turn_of calls h (Op b) = pick (is_call b) (call_turn (calls b) h) (Sends h)
-turn_of calls h (Esc b) = Sends h
-turn_of calls h (Mask start len) = Sends h
+abbrev pub turn_of : Calls → Option ℤ → Token → Result (Option ℤ) Stuck
+turn_of calls h (Num v) = Ok h
+turn_of calls h (Op b) = pick (is_call b) (call_turn (calls b) h) (Ok h)
+turn_of calls h (Esc b) = Ok h
+turn_of calls h (Mask start len) = Ok h
 
 -- the number that is held after a token, and as the definitions say it
 abbrev pub after : Token → Option Float
@@ -56,24 +53,22 @@ cursor at args stems due = record { at = at; args = args; stems = stems; due = d
 abbrev pub a_turn : Option ℤ → Token → Cursor → Option Turned
 a_turn v t d = Some (record { before = v; token = t; next = d })
 
-abbrev pub turned_by : Turn → Token → Cursor → Option Turned
-turned_by Stuck t d = None
-turned_by (Sends v) t d = a_turn v t d
+abbrev pub turned_by : Result (Option ℤ) Stuck → Token → Cursor → Option Turned
+turned_by (Err w) t d = None
+turned_by (Ok v) t d = a_turn v t d
 
 abbrev pub turned_at : Calls → Option ℤ → Option (Token × Cursor) → Option Turned
 turned_at calls h None = None
 turned_at calls h (Some (t, d)) = turned_by (turn_of calls h t) t d
 
--- the bytes of the number that was held, and of a token that is not a number
+-- the bytes of the number that was held, and of a token: a number is held, so it has none
 abbrev pub held_bytes_lem : Option ℤ → List ℕ
 held_bytes_lem None = []
 held_bytes_lem (Some v) = encoded v
 
 abbrev pub own_bytes : List ℕ → Token → List ℕ
 own_bytes s (Num v) = []
-own_bytes s (Op b) = b ∷ []
-own_bytes s (Esc b) = 12 ∷ b ∷ []
-own_bytes s (Mask start len) = take len (drop start s)
+own_bytes s t = token_bytes s t
 
 abbrev pub sent_bytes : List ℕ → Option ℤ → Token → List ℕ
 sent_bytes s h t = held_bytes_lem h ++ own_bytes s t
@@ -85,15 +80,12 @@ held_len_lem (Some v) = length (encoded v)
 
 abbrev pub own_len : Token → ℕ
 own_len (Num v) = 0
-own_len (Op b) = 1
-own_len (Esc b) = 2
-own_len (Mask start len) = len
+own_len t = token_len_lem t
 
--- what renumbering a body asks: ranks in the words, rows in order where that is said, and a body of a font
-pub record Inputs (s ws : List ℕ) (locals globals : Ranks) (rows : List Row) (rising : Bool) (site : Site) : Type 0 where
+-- what renumbering a body asks: ranks in the words, and a body of a font
+pub record Inputs (s ws : List ℕ) (locals globals : Ranks) : Type 0 where
   pub local_ranks : Ranked ws locals
   pub global_ranks : Ranked ws globals
-  pub order : rising ≡ true → rises rows ≡ true
   pub size : length s ≤ 67108864
 
 -- how long a body is once it is renumbered, its bytes, and whether there are any

@@ -1,5 +1,5 @@
 -- Laws of a body renumbered token by token: what was written so far and what is left give the whole.
-use Rattle.std.specs.Prelude.{ℕ, ◌+◌, ◌≡◌, refl, Bool, true, false, List, [], ◌∷◌, ◌++◌, ℤ, Float, length, take, drop, None, Option, Some}
+use Rattle.std.specs.Prelude.{ℕ, ◌+◌, ◌≡◌, refl, Bool, true, false, List, [], ◌∷◌, ◌++◌, ℤ, Float, length, take, drop, None, Option, Some, Result, Ok, Err}
 use Rattle.std.proofs.Common.{sym, ◌∙◌, append_assoc, append-nil, arith, length-append}
 use Rattle.std.proofs.Math.Path.{ap, subst}
 use Rattle.octets.specs.Pick.{pick}
@@ -15,9 +15,8 @@ use Rattle.charstring.specs.EncodeLaws.{encode-append}
 use Rattle.prune.specs.StepLaws.{zero_one}
 use Rattle.prune.specs.Renumber.{Calls, is_call, before, called, called_after, kept, renumber}
 use Rattle.renumber.specs.Turn.{turn_for, call_turn, turn_of, after, held_after, turned_by, turned_at, held_bytes_lem, own_bytes, sent_bytes, held_len_lem, own_len, a_turn}
-use Rattle.renumber.specs.declared.turns.Turn.{Turn}
+use Rattle.renumber.specs.declared.turns.Stuck.{Stuck}
 use Rattle.renumber.specs.declared.Turned.{Turned}
-use Rattle.renumber.specs.declared.turns.Turn.TheVariants.{Stuck, Sends}
 
 -- ---- tokens written before what is left
 
@@ -108,36 +107,36 @@ kept_failed : (w : Option ℤ) (t : Tok) → kept w (before t None) ≡ None
 kept_failed None t = refl
 kept_failed (Some z) t = refl
 
-pub stuck_sends : (v : Option ℤ) → Stuck ≡ Sends v → ⊥
-stuck_sends v e = zero_one cc
+pub stuck_sends : (w : Stuck) (v : Option ℤ) → Err w ≡ Ok v → ⊥
+stuck_sends w v e = zero_one cc
 
-pub sends_same : (h v : Option ℤ) → Sends h ≡ Sends v → h ≡ v
+pub sends_same : (h v : Option ℤ) → ◌≡◌ {A = Result (Option ℤ) Stuck} (Ok h) (Ok v) → h ≡ v
 sends_same h v e = cc
 
 module _ (calls : Calls) where
   -- a call
-  called-turn : (b : ℕ) (v : Option ℤ) (r : Option (List Tok)) (o : Option ℤ) → turn_for o ≡ Sends v → called b o r ≡ ahead (held_toks v ++ (op b ∷ [])) r
-  called-turn b v r None e = absurd (stuck_sends v e)
+  called-turn : (b : ℕ) (v : Option ℤ) (r : Option (List Tok)) (o : Option ℤ) → turn_for o ≡ Ok v → called b o r ≡ ahead (held_toks v ++ (op b ∷ [])) r
+  called-turn b v r None e = absurd (stuck_sends _ v e)
   called-turn b v r (Some y) e = kept-own (Some y) (op b) r ∙ ap (λ (x : Option ℤ). ahead (held_toks x ++ (op b ∷ [])) r) (sends_same (Some y) v e)
 
-  op_turn : (b : ℕ) (h v : Option ℤ) (r : Option (List Tok)) (k : Bool) → pick k (call_turn (calls b) h) (Sends h) ≡ Sends v
+  op_turn : (b : ℕ) (h v : Option ℤ) (r : Option (List Tok)) (k : Bool) → pick k (call_turn (calls b) h) (Ok h) ≡ Ok v
       → pick k (called_after calls b h r) (kept h (before (op b) r)) ≡ ahead (held_toks v ++ (op b ∷ [])) r
   op_turn b h v r false e = kept-own h (op b) r ∙ ap (λ (x : Option ℤ). ahead (held_toks x ++ (op b ∷ [])) r) (sends_same h v e)
-  op_turn b None v r true e = absurd (stuck_sends v e)
+  op_turn b None v r true e = absurd (stuck_sends _ v e)
   op_turn b (Some x) v r true e = called-turn b v r (calls b x) e
 
-  op_stuck : (b : ℕ) (h : Option ℤ) (r : Option (List Tok)) (k : Bool) → pick k (call_turn (calls b) h) (Sends h) ≡ Stuck
+  op_stuck : (b : ℕ) (h : Option ℤ) (r : Option (List Tok)) (k : Bool) (w : Stuck) → pick k (call_turn (calls b) h) (Ok h) ≡ Err w
       → pick k (called_after calls b h r) (kept h (before (op b) r)) ≡ None
-  op_stuck b h r false e = absurd (stuck_sends h (sym e))
-  op_stuck b None r true e = refl
-  op_stuck b (Some x) r true e = go (calls b x) e
+  op_stuck b h r false w e = absurd (stuck_sends w h (sym e))
+  op_stuck b None r true w e = refl
+  op_stuck b (Some x) r true w e = go (calls b x) e
     where
-      go : (o : Option ℤ) → turn_for o ≡ Stuck → called b o r ≡ None
+      go : (o : Option ℤ) → turn_for o ≡ Err w → called b o r ≡ None
       go None f = refl
-      go (Some y) f = absurd (stuck_sends (Some y) (sym f))
+      go (Some y) f = absurd (stuck_sends w (Some y) (sym f))
 
   -- a token that sends a number: what is written, before what is left
-  pub turn_sends : (s : List ℕ) (h : Option ℤ) (t : Token) (v : Option ℤ) (ts : List Tok) → turn_of calls h t ≡ Sends v
+  pub turn_sends : (s : List ℕ) (h : Option ℤ) (t : Token) (v : Option ℤ) (ts : List Tok) → turn_of calls h t ≡ Ok v
       → renumber calls h (told s t ∷ ts) ≡ ahead (sent_toks s v t) (renumber calls (held_after t) ts)
   unfolding renumber
   turn_sends s h (Num x) v ts e =
@@ -153,39 +152,39 @@ module _ (calls : Calls) where
       kept-own h m r ∙ ap (λ (y : Option ℤ). ahead (held_toks y ++ (m ∷ [])) r) (sends_same h v e)
 
   -- and one at which the renumbering fails
-  pub turn_stuck : (s : List ℕ) (h : Option ℤ) (t : Token) (ts : List Tok) → turn_of calls h t ≡ Stuck → renumber calls h (told s t ∷ ts) ≡ None
+  pub turn_stuck : (s : List ℕ) (h : Option ℤ) (t : Token) (ts : List Tok) (w : Stuck) → turn_of calls h t ≡ Err w → renumber calls h (told s t ∷ ts) ≡ None
   unfolding renumber
-  turn_stuck s h (Num x) ts e = absurd (stuck_sends h (sym e))
-  turn_stuck s h (Op b) ts e = op_stuck b h (renumber calls None ts) (is_call b) e
-  turn_stuck s h (Esc b) ts e = absurd (stuck_sends h (sym e))
-  turn_stuck s h (Mask start len) ts e = absurd (stuck_sends h (sym e))
+  turn_stuck s h (Num x) ts w e = absurd (stuck_sends w h (sym e))
+  turn_stuck s h (Op b) ts w e = op_stuck b h (renumber calls None ts) (is_call b) w e
+  turn_stuck s h (Esc b) ts w e = absurd (stuck_sends w h (sym e))
+  turn_stuck s h (Mask start len) ts w e = absurd (stuck_sends w h (sym e))
 
 -- ---- a step
 
 -- what a step that goes on says
 pub record Onward (calls : Calls) (h : Option ℤ) (st : Option (Token × Cursor)) (v : Option ℤ) (t : Token) (d : Cursor) : Type 0 where
   pub step : st ≡ Some (t, d)
-  pub turn : turn_of calls h t ≡ Sends v
+  pub turn : turn_of calls h t ≡ Ok v
 
 module _ (calls : Calls) (h : Option ℤ) where
   pub onward-of : (st : Option (Token × Cursor)) (v : Option ℤ) (t : Token) (d : Cursor) → turned_at calls h st ≡ a_turn v t d → Onward calls h st v t d
   onward-of None v t d e = absurd (zero_one cc)
   onward-of (Some (t', d')) v t d e = go (turn_of calls h t') refl e
     where
-      go : (q : Turn) → turn_of calls h t' ≡ q → turned_by q t' d' ≡ a_turn v t d → Onward calls h (Some (t', d')) v t d
-      go Stuck f g = absurd (zero_one cc)
-      go (Sends u) f g =
+      go : (q : Result (Option ℤ) Stuck) → turn_of calls h t' ≡ q → turned_by q t' d' ≡ a_turn v t d → Onward calls h (Some (t', d')) v t d
+      go (Err w) f g = absurd (zero_one cc)
+      go (Ok u) f g =
           let p : ◌≡◌ {A = Turned} (record { before = u; token = t'; next = d' }) (record { before = v; token = t; next = d }) = cc in
           let a : u ≡ v = ap (λ (q : Turned). q.before) p in
           let b : t' ≡ t = ap (λ (q : Turned). q.token) p in
           let c : d' ≡ d = ap (λ (q : Turned). q.next) p in
-          record { step = ap (λ (x : Token). Some (x, d')) b ∙ ap (λ (x : Cursor). Some (t, x)) c; turn = ap (turn_of calls h) (sym b) ∙ f ∙ ap Sends a }
+          record { step = ap (λ (x : Token). Some (x, d')) b ∙ ap (λ (x : Cursor). Some (t, x)) c; turn = ap (turn_of calls h) (sym b) ∙ f ∙ ap Ok a }
 
   pub failed_of : (st : Option (Token × Cursor)) (P : Type 0) → turned_at calls h st ≡ None → (st ≡ None → P)
-      → ((t : Token) (d : Cursor) → st ≡ Some (t, d) → turn_of calls h t ≡ Stuck → P) → P
+      → ((t : Token) (d : Cursor) → st ≡ Some (t, d) → (w : Stuck) → turn_of calls h t ≡ Err w → P) → P
   failed_of None P e f g = f refl
   failed_of (Some (t, d)) P e f g = go (turn_of calls h t) refl e
     where
-      go : (q : Turn) → turn_of calls h t ≡ q → turned_by q t d ≡ None → P
-      go Stuck k l = g t d refl k
-      go (Sends u) k l = absurd (zero_one cc)
+      go : (q : Result (Option ℤ) Stuck) → turn_of calls h t ≡ q → turned_by q t d ≡ None → P
+      go (Err w) k l = g t d refl w k
+      go (Ok u) k l = absurd (zero_one cc)

@@ -5,6 +5,7 @@ use Rattle.octets.specs.Octets.{Wrote}
 use Rattle.type2_number.specs.Number.{Reading}
 use Rattle.charstring.specs.declared.Token.{Token}
 use Rattle.charstring.specs.declared.Cursor.{Cursor}
+use Rattle.charstring.specs.Bias.{last_at}
 use Rattle.charstring.specs.Token.{Tok, more, token_at, tokens_of, start}
 use Rattle.charstring.specs.Answers.{step_of, given_at}
 use Rattle.charstring.specs.TokensLaws.{Next}
@@ -15,7 +16,7 @@ use Rattle.renumber.specs.OperandLaws.{calls-read}
 use Rattle.renumber.specs.Turn.{cursor, held_after, turned_at, held_bytes_lem, sent_bytes, held_len_lem, own_len, sized_of, body_of_lem, is_yes, a_turn}
 use Rattle.renumber.specs.BodyLaws.{Turning, Sizing, Putting, turning_next, sizing_start, sized-room, sized_end, sizing_turn, sized_failed, putting_start, putting_room, putting_turn, putting_failed, put_end_room, put_end, whole-body}
 use Rattle.renumber.specs.RunBodyLaws.{sizing_run, putting_run-room, putting_run}
-use Rattle.renumber.specs.Run.{run_bytes, held_in, RunFrom}
+use Rattle.renumber.specs.Run.{run_bytes, RunFrom}
 use Rattle.renumber.specs.Bodies.{calls_of, given_of, renumbered_of, turned_of}
 use Rattle.renumber.specs.declared.runs.Run.{Run}
 use Rattle.renumber.specs.declared.Turned.{Turned}
@@ -56,7 +57,7 @@ module _ (b : Body) where
     pub size_end : more b.code.now c ≡ false → {n : ℕ} → n ≡ held_len_lem h → Some (len + n) ≡ sized_of (turned_of b)
     size_end m {n} e = sized_end (calls_of b) reads (given_of b) b.code.now b.octets c h len w m n e
 
-    pub size_run : {r : Run} → RunFrom b.code.now c r → c.at < r.at → {n : ℕ} → n ≡ held_len_lem h + (r.last - c.at) → {k : Option ℤ} → k ≡ held_in b.code.now r.last r.at
+    pub size_run : {r : Run} → RunFrom b.code.now c r → c.at < r.at → {n : ℕ} → n ≡ held_len_lem h + (r.last - c.at) → {k : Option ℤ} → k ≡ last_at b.code.now r.last r.at
         → Sizes b (cursor r.at r.args r.stems false) k (len + n)
     size_run {r} run on {n} e {k} f = sizing_run (calls_of b) reads (given_of b) b.code.now b.octets c r run on h len w n e k f
 
@@ -78,7 +79,7 @@ module _ (b : Body) where
     bs = body_of_lem (renumbered_of b)
 
     whole : renumbered_tokens (calls_of b) (tokens_of (given_of b) b.code.now) ≡ Some (body_of_lem (renumbered_of b))
-    whole = whole-body (rows_of b.rows.now) (calls_of b) (site_of b.site) b.code.now yes
+    whole = whole-body (rows_of b.rows.bytes.now) (calls_of b) (site_of b.site) b.code.now yes
 
     pub puts_end-room : more b.code.now c ≡ false → p + length (held_bytes_lem h) ≤ length new
     puts_end-room m = put_end_room (calls_of b) reads (given_of b) b.code.now b.octets old to bs whole room c h new p w m
@@ -90,7 +91,7 @@ module _ (b : Body) where
       pub puts_run-room : p + length (run_bytes b.code.now h c.at r.last) ≤ length new
       puts_run-room = putting_run-room (calls_of b) reads (given_of b) b.code.now b.octets c r run on old to bs whole room h new p w
 
-      pub puts_run : {newer : List ℕ} {q : ℕ} → Wrote new p (run_bytes b.code.now h c.at r.last) newer q → {k : Option ℤ} → k ≡ held_in b.code.now r.last r.at
+      pub puts_run : {newer : List ℕ} {q : ℕ} → Wrote new p (run_bytes b.code.now h c.at r.last) newer q → {k : Option ℤ} → k ≡ last_at b.code.now r.last r.at
           → Puts b old to (cursor r.at r.args r.stems false) k newer q
       puts_run {newer} {q} v {k} f = (putting_run (calls_of b) reads (given_of b) b.code.now b.octets c r run on old to bs whole room h new p w newer q v k f).0
 

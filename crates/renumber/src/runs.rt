@@ -3,13 +3,13 @@
 ghost use Rattle.std.specs.Prelude.{◌≡◌, false, ◌+◌, ◌*◌, ◌≤◌, ◌<◌, length};
 ghost use Rattle.charstring.specs.Answers.{Within};
 ghost use Rattle.renumber.specs.Turn.{cursor};
-ghost use Rattle.renumber.specs.Run.{is_plain, is_operator, is_three_lem, is_five_lem, three_len, five_len, plain_len, held_in, RunFrom};
+ghost use Rattle.renumber.specs.Run.{is_plain, is_operator, is_three_lem, is_five_lem, three_len, five_len, plain_len, RunFrom};
 
 use charstring::place::Place;
 use charstring::stems_after;
-use type2_number::{Number, Operand, read_number};
 
-// A run of plain tokens: where reading stands after it, and where its last number starts; that is the same place where it ends in an operator.
+// A run of plain tokens: where reading stands after it, and where the bytes that are sent end: its last number is held back, and starts there; where it ends in
+// an operator nothing is, and all are sent. (So it is a place in both cases, and no Option.)
 #[derive(Clone, Copy)]
 pub struct Run {
     pub at: usize,
@@ -22,35 +22,14 @@ pub struct Run {
 fn is_plain(b: u8) -> bool
     ensures { result ≡ is_plain b }
 {
-    if b == 10 {
-        return false;
-    }
-    if b == 12 {
-        return false;
-    }
-    if b == 19 {
-        return false;
-    }
-    if b == 20 {
-        return false;
-    }
-    if b == 28 {
-        return false;
-    }
-    if b == 29 {
-        return false;
-    }
-    true
+    !matches!(b, 10 | 12 | 19 | 20 | 28 | 29)
 }
 
 // Whether a byte is an operator or begins one.
 fn is_operator(b: u8) -> bool
     ensures { result ≡ is_operator b }
 {
-    if b < 32 {
-        return b != 28;
-    }
-    false
+    b < 32 && b != 28
 }
 
 // Whether an integer of 16 bits takes three bytes when it is written.
@@ -174,19 +153,4 @@ pub fn run_at(code: &[u8], at: usize, args: usize, stems: usize, due: bool) -> R
         };
     }
     plain_run(code, at, args, stems)
-}
-
-// The number that a run holds back.
-pub fn held_at(code: &[u8], last: usize, at: usize) -> Option<Operand>
-    requires { at ≤ length code.now }
-    ensures { result ≡ held_in code.now last at }
-{
-    if last < at {
-        return match read_number(code, last) {
-            Number::Num { value, next: _ } => Some(value),
-            Number::Cut => None,
-            Number::Operator => None,
-        };
-    }
-    None
 }

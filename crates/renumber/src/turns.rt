@@ -8,12 +8,13 @@ ghost use Rattle.charstring.specs.Bias.{bias_of, numbered};
 ghost use Rattle.prune.specs.Renumber.{operand_of, is_call};
 ghost use Rattle.prune.specs.RenumberSteps.{new_of};
 ghost use Rattle.renumber.specs.Ranks.{numbers_in, calls_by, Ranked};
-ghost use Rattle.renumber.specs.Turn.{turn_for, call_turn, turn_of, after, held_after};
+ghost use Rattle.renumber.specs.Turn.{call_turn, turn_of, after, held_after};
 
 use crate::Ranks;
 use crate::ranking::Ranking;
+use charstring::operand::number_named;
 use charstring::{Token, bias};
-use type2_number::{Operand, count_of, whole};
+use type2_number::{Operand, whole};
 
 // How many are reached below a number: from the sum below its eighth of the words on, and without a count of words where all of the eighth are.
 fn rank_below(of: &Ranking<'_>, i: usize) -> usize
@@ -52,57 +53,32 @@ fn rank_in(of: &Ranking<'_>, i: usize) -> Option<usize>
     None
 }
 
-// The number of the subroutine that an operand calls, of so many, if it calls one.
-fn number_at(count: usize, v: Operand) -> Option<usize>
-    ensures { result ≡ numbered (bias_of count) v }
-{
-    let s = count_of(v);
-    let neg = s.neg;
-    let size = s.size;
-    let added = bias(count);
-    if size % 65536 != 0 {
-        return None;
-    }
-    let i = size / 65536;
-    if neg {
-        return added.checked_sub(i);
-    }
-    Some(i + added)
-}
-
 // The rank of the subroutine that an operand calls, if it calls one that is reached.
 fn rank_at(of: &Ranking<'_>, v: Operand) -> Option<usize>
     ensures { result ≡ new_of (numbers_in of.now.words.now of.now.q) (numbered (bias_of of.now.q.count) v) }
 {
-    rank_in(of, number_at(of.q.count, v)?)
+    rank_in(of, number_named(of.q.count, v)?)
 }
 
-// What a token brings: the renumbering fails, or the number that is written just before the token.
-// (It stays an enum: an Option of an Option is no plainer, since it would not be seen which None is meant.)
-#[derive(Clone, Copy)]
-pub enum Turn {
-    Stuck,
-    Sends(Option<Operand>),
-}
+// That the renumbering fails: no number stands before a call, or it calls no subroutine that is reached.
+#[derive(Clone, Copy, PartialEq, Eq)]
+pub struct Stuck;
 
-// The new operand of a call, by its old one.
-fn new_operand(of: &Ranking<'_>, v: Operand) -> Turn
-    ensures { result ≡ turn_for (operand_of (numbers_in of.now.words.now of.now.q) (bias_of of.now.q.count) (bias_of of.now.q.reached) v) }
+// The new operand of a call, by its old one, if it calls a subroutine that is reached.
+fn new_operand(of: &Ranking<'_>, v: Operand) -> Option<Operand>
+    ensures { result ≡ operand_of (numbers_in of.now.words.now of.now.q) (bias_of of.now.q.count) (bias_of of.now.q.reached) v }
 {
-    match rank_at(of, v) {
-        None => Turn::Stuck,
-        Some(rank) => Turn::Sends(Some(whole(rank, bias(of.q.reached)))),
-    }
+    let rank = rank_at(of, v)?;
+    Some(whole(rank, bias(of.q.reached)))
 }
 
-// A call: it takes the number just before it.
-fn call(of: &Ranking<'_>, h: Option<Operand>) -> Turn
+// A call: it takes the number just before it, and its new operand stands there.
+fn call(of: &Ranking<'_>, h: Option<Operand>) -> Result<Option<Operand>, Stuck>
     ensures { result ≡ call_turn (operand_of (numbers_in of.now.words.now of.now.q) (bias_of of.now.q.count) (bias_of of.now.q.reached)) h }
 {
-    match h {
-        None => Turn::Stuck,
-        Some(v) => new_operand(of, v),
-    }
+    let old = h.ok_or(Stuck)?;
+    let new = new_operand(of, old).ok_or(Stuck)?;
+    Ok(Some(new))
 }
 
 // Whether an operator is a call.
@@ -122,8 +98,14 @@ fn called(b: u8, locals: Ranks, globals: Ranks) -> Ranks
     globals
 }
 
-// What a token brings: a call changes the number before it, any other token leaves it.
-pub fn turn_of(words: &[u32], locals: Ranks, globals: Ranks, h: Option<Operand>, t: Token) -> Turn
+// The number that is written just before a token: a call changes the one that stood there, any other token leaves it.
+pub fn turn_of(
+    words: &[u32],
+    locals: Ranks,
+    globals: Ranks,
+    h: Option<Operand>,
+    t: Token,
+) -> Result<Option<Operand>, Stuck>
     requires { (Ranked words.now locals) × (Ranked words.now globals) }
     ensures { result ≡ turn_of (calls_by words.now locals globals) h t }
 {
@@ -134,11 +116,11 @@ pub fn turn_of(words: &[u32], locals: Ranks, globals: Ranks, h: Option<Operand>,
                 let of = Ranking { words, q };
                 return call(&of, h);
             }
-            Turn::Sends(h)
+            Ok(h)
         }
-        Token::Num(_) => Turn::Sends(h),
-        Token::Esc(_) => Turn::Sends(h),
-        Token::Mask { start: _, len: _ } => Turn::Sends(h),
+        Token::Num(_) => Ok(h),
+        Token::Esc(_) => Ok(h),
+        Token::Mask { start: _, len: _ } => Ok(h),
     }
 }
 

@@ -6,25 +6,25 @@ ghost use Rattle.std.specs.Prelude.{◌≡◌, true, ◌+◌, ◌-◌, ◌≤◌
 ghost use Rattle.octets.specs.Out.{Writes};
 ghost use Rattle.charstring.specs.Token.{more};
 ghost use Rattle.charstring.specs.Answers.{given_at, Within, Writable};
-ghost use Rattle.record.specs.Record.{rows_of, given_in, two_lengths_lem};
+ghost use Rattle.record.specs.Record.{rows_of, given_in};
 ghost use Rattle.unfold.specs.Sites.{site_of};
-ghost use Rattle.reach.specs.Reach.{rises};
 ghost use Rattle.renumber.specs.Turn.{cursor, held_bytes_lem, sent_bytes, held_len_lem, own_len, sized_of, body_of_lem, is_yes};
 ghost use Rattle.renumber.specs.Run.{run_bytes};
 ghost use Rattle.renumber.specs.Bodies.{renumbered_of, turned_of};
 ghost use Rattle.renumber.specs.Walks.{Turns};
 
-use charstring::{Cursor, MaskLen, Token, more, next_token, put_token, start};
+use charstring::operand::number_before;
+use charstring::{Cursor, MaskLen, Token, more, next_token, put_token, start, token_len};
 use octets::out::Out;
 use reach::rows::Rows;
 use renumber::Turned;
 use renumber::body::Body;
-use renumber::runs::{held_at, run_at};
-use renumber::turns::{Turn, held_after, turn_of};
+use renumber::runs::run_at;
+use renumber::turns::{held_after, turn_of};
 use type2_number::{Operand, number_len, put_number};
 use unfold::Site;
 
-// How many bytes the number that was held takes.
+// How many bytes the number that was held takes. (What is written at a token or a run is measured by one function and written by another, as bodies are: see `put_renumbered`.)
 pub fn held_len(h: Option<Operand>) -> usize
     ensures { result ≡ held_len_lem h }
 {
@@ -40,9 +40,7 @@ fn own_len(t: Token) -> usize
 {
     match t {
         Token::Num(_) => 0,
-        Token::Op(_) => 1,
-        Token::Esc(_) => 2,
-        Token::Mask { start: _, len } => len,
+        Token::Op(_) | Token::Esc(_) | Token::Mask { start: _, len: _ } => token_len(t),
     }
 }
 
@@ -73,9 +71,7 @@ pub fn put_sent(code: &[u8], h: Option<Operand>, t: Token, out: &mut Out<'_>)
     put_held(h, &mut *out);
     match t {
         Token::Num(_) => {}
-        Token::Op(b) => put_token(code, Token::Op(b), out),
-        Token::Esc(b) => put_token(code, Token::Esc(b), out),
-        Token::Mask { start, len } => put_token(code, Token::Mask { start, len }, out),
+        Token::Op(_) | Token::Esc(_) | Token::Mask { start: _, len: _ } => put_token(code, t, out),
     }
 }
 
@@ -97,21 +93,14 @@ pub fn put_run(code: &[u8], h: Option<Operand>, from: usize, last: usize, out: &
 }
 
 // The length to pass on for the token at a cursor: the record's for the mask that is due.
-fn given_at(rows: &[u8], rising: bool, site: Site, c: Cursor) -> MaskLen
-    requires { (rising ≡ true → rises (rows_of rows.now) ≡ true) × (c.due ≡ true → 0 < c.at) × (c.at < 4294967296) }
-    ensures { result ≡ given_at (given_in (rows_of rows.now) (site_of site)) c }
+fn given_at(rows: &Rows<'_>, site: Site, c: Cursor) -> MaskLen
+    requires { (c.due ≡ true → 0 < c.at) × (c.at < 4294967296) }
+    ensures { result ≡ given_at (given_in (rows_of rows.now.bytes.now) (site_of site)) c }
 {
     let due = c.due;
     let at = c.at;
     if due {
-        return reach::masks::given(
-            &Rows {
-                bytes: rows,
-                rising,
-            },
-            site,
-            (at - 1) as u32,
-        );
+        return reach::masks::given(rows, site, (at - 1) as u32);
     }
     MaskLen::Own
 }
@@ -135,18 +124,14 @@ pub fn turn_at(
         stems,
         due,
     };
-    let given = given_at(body.rows, body.rising, body.site, c);
-    match next_token(body.code, c, given) {
-        None => None,
-        Some((token, next)) => match turn_of(body.words, body.locals, body.globals, h, token) {
-            Turn::Stuck => None,
-            Turn::Sends(before) => Some(Turned {
-                before,
-                token,
-                next,
-            }),
-        },
-    }
+    let given = given_at(&body.rows, body.site, c);
+    let (token, next) = next_token(body.code, c, given)?;
+    let before = turn_of(body.words, body.locals, body.globals, h, token).ok()?;
+    Some(Turned {
+        before,
+        token,
+        next,
+    })
 }
 
 // The same without regard to two lengths at one offset.
@@ -161,7 +146,7 @@ fn body_len(body: &Body<'_>) -> Option<usize>
         let run = run_at(code, c.at, c.args, c.stems, c.due);
         if c.at < run.at {
             len += run_len(h, c.at, run.last);
-            h = held_at(code, run.last, run.at);
+            h = number_before(code, run.last, run.at);
             c = Cursor {
                 at: run.at,
                 args: run.args,
@@ -187,25 +172,11 @@ fn body_len(body: &Body<'_>) -> Option<usize>
     Some(len + held_len(h))
 }
 
-// Whether the record gives a body two lengths at one offset.
-fn two_lengths(rows: &[u8], rising: bool, site: Site) -> bool
-    requires { rising ≡ true → rises (rows_of rows.now) ≡ true }
-    ensures { result ≡ two_lengths_lem (rows_of rows.now) (site_of site) }
-{
-    reach::masks::two_lengths(
-        &Rows {
-            bytes: rows,
-            rising,
-        },
-        site,
-    )
-}
-
 // The length of a body renumbered, or that this fails: two lengths at one offset fail too.
 pub fn renumbered_len(body: &Body<'_>) -> Option<usize>
     ensures { result ≡ sized_of (renumbered_of body.now) }
 {
-    if two_lengths(body.rows, body.rising, body.site) {
+    if reach::masks::two_lengths(&body.rows, body.site) {
         return None;
     }
     body_len(body)
@@ -224,7 +195,7 @@ pub fn put_renumbered(body: &Body<'_>, out: &mut Out<'_>)
         let run = run_at(code, c.at, c.args, c.stems, c.due);
         if c.at < run.at {
             put_run(code, h, c.at, run.last, &mut *out);
-            h = held_at(code, run.last, run.at);
+            h = number_before(code, run.last, run.at);
             c = Cursor {
                 at: run.at,
                 args: run.args,

@@ -6,6 +6,7 @@ ghost use Rattle.cases.specs.Tally.{counted_all, first_failed, Below};
 ghost use Rattle.replay.specs.Answers.{answer_to};
 
 use cases::fields::{holds, read_field};
+use cases::lines::Lines;
 use cases::tally::{count_line, first_failed};
 
 // Whether our answer to an input is the stored one.
@@ -48,23 +49,17 @@ pub fn agrees(line: &[u8]) -> bool
     fields_agree(line[0], &line[2..end], &line[next..])
 }
 
-// Counts every line of a text by its kind; the number of the first that failed, 0 for none.
-pub fn replay(kinds: &[u8], text: &[u8], counts: &mut [usize]) -> usize
+// Counts every line of a text by its kind; the number of the first that failed, if one did.
+pub fn replay(kinds: &[u8], text: &[u8], counts: &mut [usize]) -> Option<usize>
     requires { (2 * length kinds.now + 2 ≤ length counts.old) × Below 1 counts.old }
     ensures { (counts.new ≡ counted_all (agrees answer_to) kinds.now counts.old (lines_of text.now))
         × (result ≡ first_failed (agrees answer_to) 0 (lines_of text.now)) }
 {
-    let n = text.len();
-    let mut at = 0;
-    let mut line = 0;
-    let mut first = 0;
-    while at < n {
-        let end = hexlines::line_end(text, at);
-        let agreed = agrees(&text[at..end]);
-        line += 1;
-        first = first_failed(first, line, agreed);
-        count_line(kinds, &text[at..end], agreed, &mut *counts);
-        at = end + 1;
+    let mut first = None;
+    for (i, line) in Lines::of(text).enumerate() {
+        let agreed = agrees(line);
+        first = first_failed(first, i + 1, agreed);
+        count_line(kinds, line, agreed, &mut *counts);
     }
     first
 }

@@ -2,7 +2,7 @@
 use Rattle.std.specs.Prelude.{ℕ, ◌≡◌, refl, List, [], ◌∷◌, None, Some}
 use Rattle.octets.specs.Octets.{bytes_of}
 use Rattle.refusal.specs.declared.Refusal.TheVariants.{Output}
-use Rattle.hexlines.specs.Hexlines.{hex_value_lem, is_hex_lem, spelt, digit_of, hex_text}
+use Rattle.hexlines.specs.Hexlines.{hex_value_lem, octet_of, is_hex_lem, spelt, digit_of, hex_text}
 use Rattle.cases.specs.Lines.{lines_of}
 use Rattle.subset.specs.Cut.{refused, subset}
 use Rattle.sheet.specs.Sheet.{hex_up_to, is_kept, hex_of, all_rows, filled, are_rows, row_bytes, pairs, is_sheet_lem, sheet_in, sheet_of, in_lines, printed, answer_to, cut_sheet}
@@ -23,42 +23,42 @@ the_output = 48 ∷ 48 ∷ 48 ∷ 48 ∷ 48 ∷ 48 ∷ 48 ∷ 48 ∷ 51 ∷ 53 �
 
 -- the input
 document-sheet : sheet_of (the_input) ≡ Some (record { font = the_font; name = 65 ∷ []; keep = 1 ∷ []; rec = []; flag = 1 })
-unfolding sheet_of sheet_in is_sheet_lem hex_up_to is_kept hex_of are_rows all_rows filled row_bytes pairs lines_of is_hex_lem spelt hex_value_lem
+unfolding sheet_of sheet_in is_sheet_lem hex_up_to is_kept hex_of are_rows all_rows filled row_bytes pairs lines_of is_hex_lem spelt octet_of hex_value_lem
 document-sheet = refl
 
 -- its last line feed is missing
 no_last-feed : sheet_of (48 ∷ 49 ∷ 48 ∷ 48 ∷ 48 ∷ 52 ∷ 48 ∷ 49 ∷ 48 ∷ 48 ∷ 48 ∷ 49 ∷ 48 ∷ 49 ∷ 48 ∷ 49 ∷ 48 ∷ 50 ∷ 53 ∷ 56 ∷ 48 ∷ 48 ∷ 48 ∷ 49 ∷ 48 ∷ 49 ∷ 48 ∷ 49 ∷ 48 ∷ 51 ∷ 97 ∷ 48 ∷ 49 ∷ 49 ∷ 48 ∷ 48 ∷ 48 ∷ 48 ∷ 48 ∷ 48 ∷ 48 ∷ 48 ∷ 48 ∷ 48 ∷ 48 ∷ 50 ∷ 48 ∷ 49 ∷ 48 ∷ 49 ∷ 48 ∷ 50 ∷ 48 ∷ 51 ∷ 48 ∷ 101 ∷ 48 ∷ 101 ∷ 10 ∷ 52 ∷ 49 ∷ 10 ∷ 48 ∷ 48 ∷ 48 ∷ 49 ∷ 10 ∷ 48 ∷ 49 ∷ []) ≡ Some (record { font = the_font; name = 65 ∷ []; keep = 1 ∷ []; rec = []; flag = 1 })
-unfolding sheet_of sheet_in is_sheet_lem hex_up_to is_kept hex_of are_rows all_rows filled row_bytes pairs lines_of is_hex_lem spelt hex_value_lem
+unfolding sheet_of sheet_in is_sheet_lem hex_up_to is_kept hex_of are_rows all_rows filled row_bytes pairs lines_of is_hex_lem spelt octet_of hex_value_lem
 no_last-feed = refl
 
 -- three empty lines, the flag, and an empty row
 empty-lines : sheet_of (10 ∷ 10 ∷ 10 ∷ 48 ∷ 48 ∷ 10 ∷ 10 ∷ []) ≡ Some (record { font = []; name = []; keep = []; rec = []; flag = 0 })
-unfolding sheet_of sheet_in is_sheet_lem hex_up_to is_kept hex_of are_rows all_rows filled row_bytes pairs lines_of is_hex_lem spelt hex_value_lem
+unfolding sheet_of sheet_in is_sheet_lem hex_up_to is_kept hex_of are_rows all_rows filled row_bytes pairs lines_of is_hex_lem spelt octet_of hex_value_lem
 empty-lines = refl
 
 -- an empty row and one
 one-row : sheet_of (10 ∷ 10 ∷ 10 ∷ 48 ∷ 49 ∷ 10 ∷ 10 ∷ 48 ∷ 48 ∷ 48 ∷ 49 ∷ 48 ∷ 50 ∷ 48 ∷ 51 ∷ 48 ∷ 52 ∷ 48 ∷ 53 ∷ 48 ∷ 54 ∷ 48 ∷ 55 ∷ 48 ∷ 56 ∷ 102 ∷ 102 ∷ []) ≡ Some (record { font = []; name = []; keep = []; rec = 0 ∷ 1 ∷ 2 ∷ 3 ∷ 4 ∷ 5 ∷ 6 ∷ 7 ∷ 8 ∷ 255 ∷ []; flag = 1 })
-unfolding sheet_of sheet_in is_sheet_lem hex_up_to is_kept hex_of are_rows all_rows filled row_bytes pairs lines_of is_hex_lem spelt hex_value_lem
+unfolding sheet_of sheet_in is_sheet_lem hex_up_to is_kept hex_of are_rows all_rows filled row_bytes pairs lines_of is_hex_lem spelt octet_of hex_value_lem
 one-row = refl
 
 -- no flag line
 no_flag : sheet_of (48 ∷ 48 ∷ 10 ∷ 10 ∷ 10 ∷ []) ≡ None
-unfolding sheet_of sheet_in is_sheet_lem hex_up_to is_kept hex_of are_rows all_rows filled row_bytes pairs lines_of is_hex_lem spelt hex_value_lem
+unfolding sheet_of sheet_in is_sheet_lem hex_up_to is_kept hex_of are_rows all_rows filled row_bytes pairs lines_of is_hex_lem spelt octet_of hex_value_lem
 no_flag = refl
 
 -- upper case
 upper_case : sheet_of (10 ∷ 52 ∷ 65 ∷ 10 ∷ 10 ∷ 48 ∷ 48 ∷ 10 ∷ []) ≡ None
-unfolding sheet_of sheet_in is_sheet_lem hex_up_to is_kept hex_of are_rows all_rows filled row_bytes pairs lines_of is_hex_lem spelt hex_value_lem
+unfolding sheet_of sheet_in is_sheet_lem hex_up_to is_kept hex_of are_rows all_rows filled row_bytes pairs lines_of is_hex_lem spelt octet_of hex_value_lem
 upper_case = refl
 
 -- a number of two digits
 half-number : sheet_of (10 ∷ 10 ∷ 48 ∷ 48 ∷ 10 ∷ 48 ∷ 48 ∷ 10 ∷ []) ≡ None
-unfolding sheet_of sheet_in is_sheet_lem hex_up_to is_kept hex_of are_rows all_rows filled row_bytes pairs lines_of is_hex_lem spelt hex_value_lem
+unfolding sheet_of sheet_in is_sheet_lem hex_up_to is_kept hex_of are_rows all_rows filled row_bytes pairs lines_of is_hex_lem spelt octet_of hex_value_lem
 half-number = refl
 
 -- a row of 18 digits
 short_row : sheet_of (10 ∷ 10 ∷ 10 ∷ 48 ∷ 49 ∷ 10 ∷ 48 ∷ 48 ∷ 48 ∷ 49 ∷ 48 ∷ 50 ∷ 48 ∷ 51 ∷ 48 ∷ 52 ∷ 48 ∷ 53 ∷ 48 ∷ 54 ∷ 48 ∷ 55 ∷ 48 ∷ 56 ∷ []) ≡ None
-unfolding sheet_of sheet_in is_sheet_lem hex_up_to is_kept hex_of are_rows all_rows filled row_bytes pairs lines_of is_hex_lem spelt hex_value_lem
+unfolding sheet_of sheet_in is_sheet_lem hex_up_to is_kept hex_of are_rows all_rows filled row_bytes pairs lines_of is_hex_lem spelt octet_of hex_value_lem
 short_row = refl
 
 -- document 01's output is what is printed of its subset

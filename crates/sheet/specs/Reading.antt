@@ -1,9 +1,9 @@
 -- Reading the lines of a sheet (document 01, 'One sheet, whole') in place: what the functions answer.
-use Rattle.std.specs.Prelude.{ℕ, ◌+◌, ◌-◌, ◌≤◌, ◌<◌, ◌≡◌, Bool, true, false, List, [], ◌∷◌, leb, eqb, length, take, drop, None, Option, Some}
+use Rattle.std.specs.Prelude.{ℕ, ◌+◌, ◌≡◌, Bool, true, false, List, [], ◌∷◌, leb, eqb, length, take, None, Option, Some}
 use Rattle.octets.specs.Pick.{pick}
 use Rattle.cases.specs.Lines.{lines_of}
 use Rattle.sheet.specs.Sheet.{Sheet, hex_of, filled, is_sheet_lem, sheet_with, sheet_of}
-use Rattle.sheet.specs.declared.reading.LineEnds.{LineEnds}
+use Rattle.sheet.specs.declared.reading.Head.{Head}
 use Rattle.sheet.specs.declared.reading.Parts.{Parts}
 
 -- how many rows there are after one more line; none where they are too many, or the line is no row
@@ -16,37 +16,20 @@ rows_follow None ls = false
 rows_follow (Some k) [] = true
 rows_follow (Some k) (l ∷ ls) = rows_follow (rows_after k l) ls
 
--- the elements from f up to t
-abbrev pub part : ℕ → ℕ → List ℕ → List ℕ
-part f t s = take (t - f) (drop f s)
-
--- a text of four lines or more, the first four of which end at a, b, c and d
-pub record FourLines (text : List ℕ) (a b c d : ℕ) : Type 0 where
-  pub are : lines_of text ≡ part 0 a text ∷ (part (a + 1) b text ∷ (part (b + 1) c text ∷ (part (c + 1) d text ∷ lines_of (drop (d + 1) text))))
-  pub first : a < b
-  pub second : b < c
-  pub third : c < d
-  pub within : d ≤ length text
-
--- are the lines of such a text those of a sheet?
-unfoldable pub is_sheet_at : List ℕ → ℕ → ℕ → ℕ → ℕ → Bool
-is_sheet_at text a b c d =
-    is_sheet_lem (part 0 a text) (part (a + 1) b text) (part (b + 1) c text) (part (c + 1) d text) (filled (lines_of (drop (d + 1) text)))
+-- are the lines of a text those of a sheet?
+unfoldable pub is_sheet_at : Head → Bool
+is_sheet_at h = is_sheet_lem h.font.now h.name.now h.keep.now h.flag.now (filled (lines_of h.rows.now))
 
 -- the sheet that they hold
-unfoldable pub sheet_at : List ℕ → ℕ → ℕ → ℕ → ℕ → Sheet
-sheet_at text a b c d =
-    sheet_with (part 0 a text) (part (a + 1) b text) (part (b + 1) c text) (part (c + 1) d text) (filled (lines_of (drop (d + 1) text)))
+unfoldable pub sheet_at : Head → Sheet
+sheet_at h = sheet_with h.font.now h.name.now h.keep.now h.flag.now (filled (lines_of h.rows.now))
 
 -- what is said of the first lines of a text
-unfoldable pub HeadIs : List ℕ → Option LineEnds → Type 0
+unfoldable pub HeadIs : List ℕ → Option Head → Type 0
 HeadIs text None = sheet_of text ≡ None
-HeadIs text (Some e) = FourLines text e.font_end e.name_end e.keep_end e.flag_end
+HeadIs text (Some h) = lines_of text ≡ h.font.now ∷ (h.name.now ∷ (h.keep.now ∷ (h.flag.now ∷ lines_of h.rows.now)))
 
--- the code's answers, by their numbers
-abbrev pub ends : ℕ → ℕ → ℕ → ℕ → LineEnds
-ends a b c d = record { font_end = a; name_end = b; keep_end = c; flag_end = d }
-
+-- the code's answer, by its numbers
 abbrev pub parts : ℕ → ℕ → ℕ → ℕ → ℕ → Parts
 parts m n k l flag = record { font = m; name = n; keep = k; rec = l; flag = flag }
 

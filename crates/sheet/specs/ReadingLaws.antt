@@ -9,12 +9,12 @@ use Rattle.octets.specs.Pick.{pick}
 use Rattle.octets.specs.PickLaws.{both_hold, pick_same}
 use Rattle.octets.specs.Octets.{be, num_at, Wrote}
 use Rattle.octets.specs.PutLaws.{put_one, wrote_as}
-use Rattle.hexlines.specs.Hexlines.{line_end, is_hex_lem, spelt}
+use Rattle.hexlines.specs.Hexlines.{is_hex_lem, spelt}
 use Rattle.hexlines.specs.HexlinesLaws.{spelt-length}
 use Rattle.cases.specs.Lines.{lines_of}
-use Rattle.cases.specs.LinesLaws.{lines_next, lines_none}
 use Rattle.sheet.specs.Sheet.{hex_up_to, is_kept, hex_of, all_rows, filled, are_rows, row_bytes, pairs, sheet_in, sheet_of}
-use Rattle.sheet.specs.Reading.{rows_after, rows_follow, part, FourLines}
+use Rattle.sheet.specs.Reading.{rows_after, rows_follow, HeadIs}
+use Rattle.sheet.specs.declared.reading.Head.{Head}
 
 -- ---- a line, by the code's tests
 
@@ -22,16 +22,28 @@ pub passes : (t b : Bool) → t ≡ true → b ≡ pick t b false
 passes true b e = refl
 passes false b e = absurd (false≢true e)
 
-pub fails : (t b : Bool) → t ≡ false → false ≡ pick t b false
-fails true b e = absurd (false≢true (sym e))
-fails false b e = refl
+pub stays : (t b : Bool) → t ≡ false → t ≡ pick t b false
+stays true b e = absurd (false≢true (sym e))
+stays false b e = refl
+
+-- five tests, of which each asks those before it
+pub five : (a b c d e : Bool) {u v w : Bool} → u ≡ pick a b false → v ≡ pick u c false → w ≡ pick v d false
+    → pick w e false ≡ pick a (pick b (pick c (pick d e false) false) false) false
+five a b c d e {u} {v} {w} f g h =
+    ap (λ (t : Bool). pick t e false) (h ∙ ap (λ (t : Bool). pick t d false) (g ∙ ap (λ (t : Bool). pick t c false) f)) ∙ go a b c d
+  where
+    go : (a b c d : Bool) → pick (pick (pick (pick a b false) c false) d false) e false ≡ pick a (pick b (pick c (pick d e false) false) false) false
+    go true true true d = refl
+    go true true false d = refl
+    go true false c d = refl
+    go false b c d = refl
 
 module _ (l : List ℕ) (n : ℕ) where
   pub of-same : length l ≡ n → is_hex_lem l ≡ hex_of n l
   unfolding hex_of
   of-same e = rw (eq-eqb (length l) n e)
 
-  pub of_other : (length l ≡ n → ⊥) → false ≡ hex_of n l
+  pub of_other : (length l ≡ n → ⊥) → eqb (length l) n ≡ hex_of n l
   unfolding hex_of
   of_other e = rw (ne_eqb (length l) n e)
 
@@ -39,7 +51,7 @@ module _ (l : List ℕ) (n : ℕ) where
   unfolding hex_up_to
   up_to h = rw (le-leb (length l) (2 * n) h)
 
-  pub up_to_not : 2 * n < length l → false ≡ hex_up_to n l
+  pub up_to_not : 2 * n < length l → leb (length l) (2 * n) ≡ hex_up_to n l
   unfolding hex_up_to
   up_to_not h = rw (lt-leb (length l) (2 * n) h)
 
@@ -51,7 +63,7 @@ pub kept_fours : (l : List ℕ) → length l % 4 ≡ 0 → hex_up_to 2048 l ≡ 
 unfolding is_kept
 kept_fours l e = rw (eq-eqb (length l % 4) 0 e)
 
-pub kept_not : (l : List ℕ) → (length l % 4 ≡ 0 → ⊥) → false ≡ is_kept l
+pub kept_not : (l : List ℕ) → (length l % 4 ≡ 0 → ⊥) → eqb (length l % 4) 0 ≡ is_kept l
 unfolding is_kept
 kept_not l n = rw (ne_eqb (length l % 4) 0 n)
 
@@ -126,20 +138,18 @@ follow-rows ls =
     follow_left ls 0 (omega arith) ∙ ap (λ (j : ℕ). pick (leb j 512) (all_rows (filled ls)) false) e
 
 -- a line, and the lines behind it
-pub follow_next : (s : List ℕ) (p end k : ℕ) → p < length s → end ≡ line_end s p → (o : Option ℕ) → o ≡ rows_after k (take (end - p) (drop p s))
-    → rows_follow o (lines_of (drop (end + 1) s)) ≡ rows_follow (Some k) (lines_of (drop p s))
-unfolding rows_follow
-follow_next s p end k h e o r =
-    ap (λ (x : Option ℕ). rows_follow x (lines_of (drop (end + 1) s))) r ∙ sym (ap (rows_follow (Some k)) (lines_next s p end h e))
+module _ (left : List (List ℕ)) (l : List ℕ) (ls : List (List ℕ)) (k : ℕ) (n : left ≡ l ∷ ls) (o : Option ℕ) (r : o ≡ rows_after k l) where
+  pub follow_next : rows_follow o ls ≡ rows_follow (Some k) left
+  unfolding rows_follow
+  follow_next = ap (λ (x : Option ℕ). rows_follow x ls) r ∙ sym (ap (rows_follow (Some k)) n)
 
-pub follow_bad : (s : List ℕ) (p end k : ℕ) → p < length s → end ≡ line_end s p → (o : Option ℕ) → o ≡ rows_after k (take (end - p) (drop p s)) → o ≡ None
-    → false ≡ rows_follow (Some k) (lines_of (drop p s))
-unfolding rows_follow
-follow_bad s p end k h e o r n = follow_next s p end k h e None (sym n ∙ r)
+  pub follow_bad : o ≡ None → false ≡ rows_follow (Some k) left
+  unfolding rows_follow
+  follow_bad e = ap (λ (x : Option ℕ). rows_follow x ls) (sym e) ∙ follow_next
 
-pub follow_done : (s : List ℕ) (p k : ℕ) → length s ≤ p → rows_follow (Some k) (lines_of (drop p s)) ≡ true
+pub follow_done : (left : List (List ℕ)) (k : ℕ) → left ≡ [] → true ≡ rows_follow (Some k) left
 unfolding rows_follow
-follow_done s p k h = ap (rows_follow (Some k)) (lines_none s p h)
+follow_done left k n = sym (ap (rows_follow (Some k)) n)
 
 -- ---- the bytes of rows
 
@@ -167,36 +177,23 @@ pub are-rows : (ls : List (List ℕ)) → are_rows ls ≡ true → (length ls �
 unfolding are_rows
 are-rows ls e = let p = both_hold (leb (length ls) 512) (all_rows ls) e in (leb-true (length ls) 512 p.0, p.1)
 
--- what is left of the rows of a text, from p on
-pub record RowsLeft (s : List ℕ) (p : ℕ) : Type 0 where
-  pub fine : all_rows (filled (lines_of (drop p s))) ≡ true
+-- there is room for the bytes of all rows
+pub rows_start : (ls : List (List ℕ)) → are_rows (filled ls) ≡ true → (all_rows (filled ls) ≡ true) × (length (row_bytes ls) ≤ 5120)
+rows_start ls e =
+    let h = are-rows (filled ls) e in
+    (h.1, omega (arith, h.0, rows_tens (filled ls) h.1, ap length (rows-filled ls)))
 
-pub rows_start : (s : List ℕ) (p : ℕ) → are_rows (filled (lines_of (drop p s))) ≡ true → RowsLeft s p × (length (row_bytes (lines_of (drop p s))) ≤ 5120)
-rows_start s p e =
-    let h = are-rows (filled (lines_of (drop p s))) e in
-    let n = rows_tens (filled (lines_of (drop p s))) h.1 in
-    let m = ap length (rows-filled (lines_of (drop p s))) in
-    (record { fine = h.1 }, omega (arith, h.0, n, m))
-
-module _ (s : List ℕ) (p end : ℕ) (h : p < length s) (e : end ≡ line_end s p) where
-  pub rows_next : row_bytes (lines_of (drop p s)) ≡ spelt (part p end s) ++ row_bytes (lines_of (drop (end + 1) s))
+module _ (left : List (List ℕ)) (l : List ℕ) (ls : List (List ℕ)) (n : left ≡ l ∷ ls) where
+  pub rows_next : row_bytes left ≡ spelt l ++ row_bytes ls
   unfolding row_bytes
-  rows_next = ap row_bytes (lines_next s p end h e)
+  rows_next = ap row_bytes n
 
-  rows-turn : RowsLeft s p → (is_hex_lem (part p end s) ≡ true) × (all_rows (filled (lines_of (drop (end + 1) s))) ≡ true)
-  rows-turn r =
-      rows-first (part p end s) (lines_of (drop (end + 1) s))
-      (sym (ap (λ (l : List (List ℕ)). all_rows (filled l)) (lines_next s p end h e)) ∙ r.fine)
+  pub rows-turn : all_rows (filled left) ≡ true → (is_hex_lem l ≡ true) × (all_rows (filled ls) ≡ true)
+  rows-turn r = rows-first l ls (sym (ap (λ (x : List (List ℕ)). all_rows (filled x)) n) ∙ r)
 
-  pub rows-hex : RowsLeft s p → is_hex_lem (part p end s) ≡ true
-  rows-hex r = (rows-turn r).0
-
-  pub rows_behind : RowsLeft s p → RowsLeft s (end + 1)
-  rows_behind r = record { fine = (rows-turn r).1 }
-
-pub rows_none : (s : List ℕ) (p : ℕ) → length s ≤ p → row_bytes (lines_of (drop p s)) ≡ []
+pub rows_none : (left : List (List ℕ)) → left ≡ [] → row_bytes left ≡ []
 unfolding row_bytes
-rows_none s p h = ap row_bytes (lines_none s p h)
+rows_none left n = ap row_bytes n
 
 pub wrote-rows : {old new : List ℕ} {q : ℕ} (s : List ℕ) → Wrote old 0 (row_bytes (lines_of s)) new q → Wrote old 0 (row_bytes (filled (lines_of s))) new q
 wrote-rows s w = wrote_as w (sym (rows-filled (lines_of s)))
@@ -238,41 +235,15 @@ wrote_one old p v h = record { is = put_one old p v h; behind = refl }
 
 -- ---- the first four lines
 
-pub short_none : (s : List ℕ) → length s ≡ 0 → sheet_of s ≡ None
-unfolding sheet_of sheet_in
-short_none s e = ap sheet_in (lines_none s 0 (omega arith))
+-- fewer are no sheet's
+few : (ls : List (List ℕ)) → length ls < 4 → sheet_in ls ≡ None
+unfolding sheet_in
+few [] h = refl
+few (a ∷ []) h = refl
+few (a ∷ (b ∷ [])) h = refl
+few (a ∷ (b ∷ (c ∷ []))) h = refl
+few (a ∷ (b ∷ (c ∷ (d ∷ ls)))) h = absurd (omega arith)
 
-module _ (s : List ℕ) (h₀ : 0 < length s) (a : ℕ) (e₀ : a ≡ line_end s 0) where
-  one : lines_of s ≡ part 0 a s ∷ lines_of (drop (a + 1) s)
-  one = lines_next s 0 a h₀ e₀
-
-  pub short-one : length s ≤ a + 1 → sheet_of s ≡ None
-  unfolding sheet_of sheet_in
-  short-one n = ap sheet_in (one ∙ ap (λ (l : List (List ℕ)). part 0 a s ∷ l) (lines_none s (a + 1) n))
-
-  module _ (h₁ : a + 1 < length s) (b : ℕ) (e₁ : b ≡ line_end s (a + 1)) where
-    two : lines_of s ≡ part 0 a s ∷ (part (a + 1) b s ∷ lines_of (drop (b + 1) s))
-    two = one ∙ ap (λ (l : List (List ℕ)). part 0 a s ∷ l) (lines_next s (a + 1) b h₁ e₁)
-
-    pub short-two : length s ≤ b + 1 → sheet_of s ≡ None
-    unfolding sheet_of sheet_in
-    short-two n = ap sheet_in (two ∙ ap (λ (l : List (List ℕ)). part 0 a s ∷ (part (a + 1) b s ∷ l)) (lines_none s (b + 1) n))
-
-    module _ (h₂ : b + 1 < length s) (c : ℕ) (e₂ : c ≡ line_end s (b + 1)) where
-      three : lines_of s ≡ part 0 a s ∷ (part (a + 1) b s ∷ (part (b + 1) c s ∷ lines_of (drop (c + 1) s)))
-      three = two ∙ ap (λ (l : List (List ℕ)). part 0 a s ∷ (part (a + 1) b s ∷ l)) (lines_next s (b + 1) c h₂ e₂)
-
-      pub short-three : length s ≤ c + 1 → sheet_of s ≡ None
-      unfolding sheet_of sheet_in
-      short-three n =
-          ap sheet_in (three ∙ ap (λ (l : List (List ℕ)). part 0 a s ∷ (part (a + 1) b s ∷ (part (b + 1) c s ∷ l))) (lines_none s (c + 1) n))
-
-      pub four-lines : (d : ℕ) → c + 1 < length s → d ≡ line_end s (c + 1) → a < b → b < c → c < d → d ≤ length s → FourLines s a b c d
-      four-lines d h₃ e₃ f g k w =
-          record {
-            are = three ∙ ap (λ (l : List (List ℕ)). part 0 a s ∷ (part (a + 1) b s ∷ (part (b + 1) c s ∷ l))) (lines_next s (c + 1) d h₃ e₃);
-            first = f;
-            second = g;
-            third = k;
-            within = w;
-          }
+pub head-none : (s : List ℕ) (r : Option Head) → r ≡ None → length (lines_of s) < 4 → HeadIs s r
+unfolding HeadIs sheet_of
+head-none s r e h = rw e (few (lines_of s) h)

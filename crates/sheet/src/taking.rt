@@ -3,7 +3,8 @@ ghost use Rattle.std.specs.Prelude.{◌≡◌, List, ◌++◌, ℕ, ◌≤◌, l
 ghost use Rattle.sheet.specs.Taking.{next_mode, ends_empty, kept_of, Held};
 
 // A text that is being taken into lent memory: how many bytes are in it, 48,135 for too many, and where the next one stands. Both are 0 at the start.
-// The mode is a number: up to 3 it counts the lines of the head, 4 is the start of a row and 5 is within one.
+// The mode is a number: up to 3 it counts the lines of the head, 4 is the start of a row and 5 is within one. An enum would hold that count
+// beside two variants, and is no plainer.
 #[derive(Drop)]
 pub struct Taking<'a> {
     pub buffer: &'a mut [u8],

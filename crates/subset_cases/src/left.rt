@@ -61,7 +61,7 @@ fn of_refused(n: u8, found: &[u8]) -> Option<Answer>
     None
 }
 
-// A subset, the first len bytes of the output: what stands behind it there is as it was lent.
+// A subset, the first len bytes of the output. It takes the whole output: what stands behind it there is as it was lent.
 fn of_subset(way: u8, len: usize, found: &[u8]) -> Option<Answer>
     requires { length found.now ≤ 4094 }
     ensures { result ≡ subset_bytes way len found.now }

@@ -4,12 +4,14 @@ use Rattle.octets.specs.Octets.{bytes_of}
 use Rattle.decimal.specs.Written.{int5_bytes}
 use Rattle.dict.specs.Lookup.{last_from, last_of}
 use Rattle.dict_write.specs.Written.{copied_entry, op_bytes_lem, offset_entry, private_entry}
+use Rattle.own_strings.specs.Slots.{no_slot}
+use Rattle.own_strings.specs.declared.slots.Slot.{Slot}
 use Rattle.subset.specs.Subset.{copied_bytes}
 use Rattle.top_dict.specs.Top.{slot_entry, slot_entries, carried, code_offsets, named_offsets, top_named}
 
--- sixteen slots of no string
-no_strings : List ℕ
-no_strings = 65536 ∷ 65536 ∷ 65536 ∷ 65536 ∷ 65536 ∷ 65536 ∷ 65536 ∷ 65536 ∷ 0 ∷ 0 ∷ 0 ∷ 0 ∷ 0 ∷ 0 ∷ 0 ∷ 0 ∷ []
+-- eight slots of no string
+no_strings : List Slot
+no_strings = no_slot ∷ no_slot ∷ no_slot ∷ no_slot ∷ no_slot ∷ no_slot ∷ no_slot ∷ no_slot ∷ []
 
 sheet : top_named [] no_strings 0x2a 0 0x2d 0 0x35
     ≡ 0x1d ∷ 0 ∷ 0 ∷ 0 ∷ 0x2a ∷ 0x0f ∷ 0x1d ∷ 0 ∷ 0 ∷ 0 ∷ 0x2d ∷ 0x11 ∷ 0x1d ∷ 0 ∷ 0 ∷ 0 ∷ 0 ∷ 0x1d ∷ 0 ∷ 0 ∷ 0 ∷ 0x35 ∷ 0x12 ∷ []

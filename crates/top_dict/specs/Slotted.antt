@@ -12,40 +12,41 @@ use Rattle.decimal.specs.declared.Signed.{Signed}
 use Rattle.decimal.specs.Decimal.{normal, whole}
 use Rattle.decimal.specs.Written.{number_bytes}
 use Rattle.dict.specs.Op.{ros, cid_count, copied_top_entries, copied_top_strings}
-use Rattle.dict.specs.Lookup.{one_of, id_in, ros_in, cid_count_in, a_ros}
-use Rattle.dict.proofs.LookupLaws.{id_low}
+use Rattle.dict.specs.Lookup.{id_in, ros_in, cid_count_in, a_ros}
 use Rattle.dict.specs.declared.RosEntry.{RosEntry}
 use Rattle.dict_write.specs.Written.{op_bytes_lem, operands_bytes, entry_bytes, offset_entry, private_entry}
+use Rattle.own_strings.specs.Slots.{no_slot}
+use Rattle.own_strings.specs.declared.slots.Slot.{Slot}
 use Rattle.strings.specs.Strings.{string_text}
 use Rattle.cff.specs.Font.{Program, charset, char_strings, fd_array, fd_select_lem}
-use Rattle.subset.specs.Texts.{Named, named_by, named_entries, new_id, slot_of}
+use Rattle.subset.specs.Texts.{Named, named_by, named_entries, new_id}
 use Rattle.subset.specs.Codes.{encoding_entry}
 use Rattle.subset.specs.Subset.{named_bytes, named, copied_bytes, ros_entry, top_by_name, top_by_cid}
 use Rattle.top_dict.specs.Top.{value_entry, slot_entry, slot_entries, string_entries, ids_bytes, ros_of, carried, code_offsets, named_offsets, glyph_offsets, cid_offsets, top_named, cid_front, top_cid}
 use Rattle.top_dict.specs.TopLaws.{slot_there, slot-none}
 
 -- the slots hold the six string ids, and the new ids of those that are there; in a CID-keyed font those of registry and ordering too
-pub record Slotted (p : Program) (cid : Bool) (own : List (List ℕ)) (slots : List ℕ) : Type 0 where
-  pub there : (j : ℕ) → j < 6 → get_or slots (2 + j) 0 ≡ slot_of (id_in (get_or copied_top_strings j 0) p.top)
-  pub renamed : (j sid : ℕ) → j < 6 → id_in (get_or copied_top_strings j 0) p.top ≡ Some sid → get_or slots (10 + j) 0 ≡ new_id own (string_text p.strings sid)
-  pub registry : cid ≡ true → (r o : ℕ) (s : Signed) → ros_in p.top ≡ a_ros r o s → get_or slots 8 0 ≡ new_id own (string_text p.strings r)
-  pub ordering : cid ≡ true → (r o : ℕ) (s : Signed) → ros_in p.top ≡ a_ros r o s → get_or slots 9 0 ≡ new_id own (string_text p.strings o)
+pub record Slotted (p : Program) (cid : Bool) (own : List (List ℕ)) (slots : List Slot) : Type 0 where
+  pub there : (j : ℕ) → j < 6 → (get_or slots (2 + j) no_slot).sid ≡ id_in (get_or copied_top_strings j 0) p.top
+  pub renamed : (j sid : ℕ) → j < 6 → id_in (get_or copied_top_strings j 0) p.top ≡ Some sid → (get_or slots (2 + j) no_slot).id ≡ new_id own (string_text p.strings sid)
+  pub registry : cid ≡ true → (r o : ℕ) (s : Signed) → ros_in p.top ≡ a_ros r o s → (get_or slots 0 no_slot).id ≡ new_id own (string_text p.strings r)
+  pub ordering : cid ≡ true → (r o : ℕ) (s : Signed) → ros_in p.top ≡ a_ros r o s → (get_or slots 1 no_slot).id ≡ new_id own (string_text p.strings o)
 
 -- ---- the string entries
 
-module _ (p : Program) (own : List (List ℕ)) (slots : List ℕ) where
-  one-named : (op m : ℕ) (rest : List ℕ) (ns : List Named) → rest ≡ named_bytes own ns → (i : Option ℕ) → id_in op p.top ≡ i → get_or slots m 0 ≡ slot_of i
-      → ((sid : ℕ) → i ≡ Some sid → get_or slots (8 + m) 0 ≡ new_id own (string_text p.strings sid))
+module _ (p : Program) (own : List (List ℕ)) (slots : List Slot) where
+  one-named : (op m : ℕ) (rest : List ℕ) (ns : List Named) → rest ≡ named_bytes own ns → (i : Option ℕ) → id_in op p.top ≡ i → (get_or slots m no_slot).sid ≡ i
+      → ((sid : ℕ) → i ≡ Some sid → (get_or slots m no_slot).id ≡ new_id own (string_text p.strings sid))
       → slot_entry slots m op ++ rest ≡ named_bytes own (named_by p op i ns)
   unfolding named_bytes
-  one-named op m rest ns e None i h f = ap (λ (l : List ℕ). l ++ rest) (sym (slot-none slots m op (omega arith))) ∙ e
+  one-named op m rest ns e None i h f = ap (λ (l : List ℕ). l ++ rest) (sym (slot-none slots m op h)) ∙ e
   one-named op m rest ns e (Some sid) i h f =
-      ap (λ (l : List ℕ). l ++ rest) (sym (slot_there slots m op (omega (arith, id_low (one_of op p.top) sid i))))
+      ap (λ (l : List ℕ). l ++ rest) (sym (slot_there slots m op sid h))
       ∙ ap (λ (n : ℕ). value_entry op n ++ rest) (f sid refl)
       ∙ ap (λ (l : List ℕ). value_entry op (new_id own (string_text p.strings sid)) ++ l) e
 
-  entries-named : (ops : List ℕ) (m : ℕ) → ((j : ℕ) → j < length ops → get_or slots (m + j) 0 ≡ slot_of (id_in (get_or ops j 0) p.top))
-      → ((j sid : ℕ) → j < length ops → id_in (get_or ops j 0) p.top ≡ Some sid → get_or slots (8 + (m + j)) 0 ≡ new_id own (string_text p.strings sid))
+  entries-named : (ops : List ℕ) (m : ℕ) → ((j : ℕ) → j < length ops → (get_or slots (m + j) no_slot).sid ≡ id_in (get_or ops j 0) p.top)
+      → ((j sid : ℕ) → j < length ops → id_in (get_or ops j 0) p.top ≡ Some sid → (get_or slots (m + j) no_slot).id ≡ new_id own (string_text p.strings sid))
       → slot_entries slots m ops ≡ named_bytes own (named_entries p ops)
   unfolding slot_entries named_entries named_bytes
   entries-named [] m f g = refl
@@ -53,16 +54,15 @@ module _ (p : Program) (own : List (List ℕ)) (slots : List ℕ) where
       let z : m ≡ m + 0 = omega arith in
       one-named op m (slot_entries slots (m + 1) ops) (named_entries p ops)
       (entries-named ops (m + 1)
-      (λ j h. let e : m + 1 + j ≡ m + suc j = omega arith in ap (λ (n : ℕ). get_or slots n 0) e ∙ f (suc j) (omega arith))
-      (λ j sid h i. let e : 8 + (m + 1 + j) ≡ 8 + (m + suc j) = omega arith in ap (λ (n : ℕ). get_or slots n 0) e ∙ g (suc j) sid (omega arith) i))
+      (λ j h. let e : m + 1 + j ≡ m + suc j = omega arith in ap (λ (n : ℕ). (get_or slots n no_slot).sid) e ∙ f (suc j) (omega arith))
+      (λ j sid h i. let e : m + 1 + j ≡ m + suc j = omega arith in ap (λ (n : ℕ). (get_or slots n no_slot).id) e ∙ g (suc j) sid (omega arith) i))
       (id_in op p.top) refl
-      (ap (λ (n : ℕ). get_or slots n 0) z ∙ f 0 (omega arith))
-      (λ sid i. ap (λ (n : ℕ). get_or slots (8 + n) 0) z ∙ g 0 sid (omega arith) i)
+      (ap (λ (n : ℕ). (get_or slots n no_slot).sid) z ∙ f 0 (omega arith))
+      (λ sid i. ap (λ (n : ℕ). (get_or slots n no_slot).id) z ∙ g 0 sid (omega arith) i)
 
   strings-named : (cid : Bool) → Slotted p cid own slots → string_entries slots ≡ named_bytes own (named p)
   strings-named cid w =
-      entries-named copied_top_strings 2 w.there
-      (λ j sid h i. let e : 8 + (2 + j) ≡ 10 + j = omega arith in ap (λ (n : ℕ). get_or slots n 0) e ∙ w.renamed j sid h i)
+      entries-named copied_top_strings 2 w.there w.renamed
 
   -- ---- ROS
 
@@ -72,13 +72,13 @@ module _ (p : Program) (own : List (List ℕ)) (slots : List ℕ) where
   unfolding entry_bytes operands_bytes
   ros-bytes a b s = simp (append_assoc, append-nil)
 
-  ros-named : (x : Option RosEntry) → ((r o : ℕ) (s : Signed) → x ≡ a_ros r o s → get_or slots 8 0 ≡ new_id own (string_text p.strings r))
-      → ((r o : ℕ) (s : Signed) → x ≡ a_ros r o s → get_or slots 9 0 ≡ new_id own (string_text p.strings o)) → ros_of slots x ≡ ros_entry p own x
+  ros-named : (x : Option RosEntry) → ((r o : ℕ) (s : Signed) → x ≡ a_ros r o s → (get_or slots 0 no_slot).id ≡ new_id own (string_text p.strings r))
+      → ((r o : ℕ) (s : Signed) → x ≡ a_ros r o s → (get_or slots 1 no_slot).id ≡ new_id own (string_text p.strings o)) → ros_of slots x ≡ ros_entry p own x
   unfolding ros_of ids_bytes
   ros-named None f g = refl
   ros-named (Some q) f g =
-      ros-bytes (get_or slots 8 0) (get_or slots 9 0) q.supplement
-      ∙ ap (λ (n : ℕ). entry_bytes ros (whole n ∷ whole (get_or slots 9 0) ∷ normal q.supplement.neg q.supplement.size 0 0 ∷ [])) (f q.registry q.ordering q.supplement refl)
+      ros-bytes (get_or slots 0 no_slot).id (get_or slots 1 no_slot).id q.supplement
+      ∙ ap (λ (n : ℕ). entry_bytes ros (whole n ∷ whole (get_or slots 1 no_slot).id ∷ normal q.supplement.neg q.supplement.size 0 0 ∷ [])) (f q.registry q.ordering q.supplement refl)
       ∙ ap (λ (n : ℕ). entry_bytes ros (whole (new_id own (string_text p.strings q.registry)) ∷ whole n ∷ normal q.supplement.neg q.supplement.size 0 0 ∷ [])) (g q.registry q.ordering q.supplement refl)
 
   -- ---- the top DICT

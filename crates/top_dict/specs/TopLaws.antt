@@ -1,15 +1,15 @@
 -- Laws of the top DICT's parts, as the code measures and writes them one behind the other.
-use Rattle.std.specs.Prelude.{ℕ, zero, suc, ◌+◌, ◌≤◌, ◌<◌, min, ◌≡◌, refl, Bool, true, false, List, [], ◌∷◌, ◌++◌, eqb, drop, get_or, None, Option, Some}
+use Rattle.std.specs.Prelude.{ℕ, zero, suc, ◌+◌, ◌*◌, ◌≤◌, ◌<◌, min, ◌≡◌, refl, Bool, true, false, List, [], ◌∷◌, ◌++◌, eqb, drop, get_or, is_some, None, Option, Some}
 use Rattle.std.proofs.Math.Path.{sym, ap}
 use Rattle.std.proofs.Common.{◌∙◌, subst, eq-eqb, ne_eqb, lt-ltb, le-ltb, lit≤, lit<, drop_of_length-le, drop-cons}
 use Rattle.std.proofs.Math.Nat.{min-le_right}
 use native.Mathlib.Omega.{arith}
 use Rattle.std.proofs.Math.ListN.{length, length-append}
-use Rattle.octets.specs.Pick.{pick}
+use Rattle.octets.specs.Pick.{pick, pick_ind}
 use Rattle.octets.specs.Octets.{Wrote}
 use Rattle.octets.specs.PutLaws.{wrote_none, wrote_as}
 use Rattle.decimal.specs.declared.Signed.{Signed}
-use Rattle.decimal.specs.Decimal.{normal, whole}
+use Rattle.decimal.specs.Decimal.{normal}
 use Rattle.decimal.specs.Values.{trunc_of, clamped, i32_of}
 use Rattle.decimal.specs.Written.{number_bytes}
 use Rattle.decimal.specs.TakenLaws.{whole-normal}
@@ -19,12 +19,16 @@ use Rattle.dict.specs.Lookup.{Operands, absent, operands, last_of, one_of, ros_a
 use Rattle.dict.specs.declared.RosEntry.{RosEntry}
 use Rattle.dict_write.specs.Written.{op_bytes_lem, copied_entry, offset_entry, private_entry}
 use Rattle.dict_write.specs.WriteLaws.{offset-length, private-length}
-use Rattle.dict_write.specs.ShortLaws.{number_short}
+use Rattle.dict_write.specs.ShortLaws.{number_short, op_short, copied-short}
+use Rattle.own_strings.specs.Slots.{no_slot}
+use Rattle.own_strings.specs.declared.slots.Slot.{Slot}
 use Rattle.subset.specs.Codes.{encoding_entry}
 use Rattle.subset.specs.Subset.{copied_bytes}
 use Rattle.top_dict.specs.Top.{Filled, value_entry, slot_entry, slot_entries, ids_bytes, ros_of, carried, code_offsets, named_offsets, glyph_offsets, cid_offsets, top_named, cid_front, top_cid, encoding_len, top_len}
-use Rattle.top_dict.specs.Writing.{Split, split-append, split-length}
-use Rattle.top_dict.specs.TopParts.{ids-parts}
+use Rattle.top_dict.specs.Writing.{Split, split-append}
+use Rattle.top_dict.specs.TopParts.{value-length}
+use Rattle.top_dict.specs.declared.top.Top.{Top}
+use Rattle.dict.specs.Held.{entries}
 use Rattle.decimal.specs.declared.Decimal.{Decimal}
 
 no : ◌≡◌ {A = ℕ} 0 1 → ⊥
@@ -37,18 +41,18 @@ whole-short s n h = number_short (normal s n 0 0) (whole-normal s n h)
 
 -- ---- the string entries
 
-module _ (slots : List ℕ) (j op : ℕ) where
-  pub slot_there : get_or slots j 0 < 65536 → value_entry op (get_or slots (8 + j) 0) ≡ slot_entry slots j op
+module _ (slots : List Slot) (j op : ℕ) where
+  pub slot_there : (x : ℕ) → (get_or slots j no_slot).sid ≡ Some x → value_entry op (get_or slots j no_slot).id ≡ slot_entry slots j op
   unfolding slot_entry
-  slot_there h = sym (ap (λ (t : Bool). pick t (value_entry op (get_or slots (8 + j) 0)) []) (lt-ltb (get_or slots j 0) 65536 h))
+  slot_there x h = sym (ap (λ (o : Option ℕ). pick (is_some o) (value_entry op (get_or slots j no_slot).id) []) h)
 
-  pub slot-none : 65536 ≤ get_or slots j 0 → [] ≡ slot_entry slots j op
+  pub slot-none : (get_or slots j no_slot).sid ≡ None → [] ≡ slot_entry slots j op
   unfolding slot_entry
-  slot-none h = sym (ap (λ (t : Bool). pick t (value_entry op (get_or slots (8 + j) 0)) []) (le-ltb (get_or slots j 0) 65536 h))
+  slot-none h = sym (ap (λ (o : Option ℕ). pick (is_some o) (value_entry op (get_or slots j no_slot).id) []) h)
 
-  -- the new id of a slot is one
-  pub slot_small : Filled slots → j < 8 → get_or slots (8 + j) 0 < 1000000000000000
-  slot_small f h = omega (arith, f.small j h)
+-- the new id of a slot is one
+slot_small : (slots : List Slot) (j : ℕ) → Filled slots → j < 8 → (get_or slots j no_slot).id < 1000000000000000
+slot_small slots j f h = omega (arith, f.small j h)
 
 six_operators : (k : ℕ) → k < 6 → is_operator (get_or copied_top_strings k 0) ≡ true
 six_operators zero h = refl
@@ -63,10 +67,10 @@ pub six_operator : (k op : ℕ) → k < 6 → op ≡ get_or copied_top_strings k
 six_operator k op h e = ap is_operator e ∙ six_operators k h
 
 -- those from the k-th on
-abbrev pub strings_from : List ℕ → ℕ → List ℕ
+abbrev pub strings_from : List Slot → ℕ → List ℕ
 strings_from slots k = slot_entries slots (2 + k) (drop k copied_top_strings)
 
-pub strings-next : (slots : List ℕ) (k : ℕ) → k < 6 → (op : ℕ) → op ≡ get_or copied_top_strings k 0
+pub strings-next : (slots : List Slot) (k : ℕ) → k < 6 → (op : ℕ) → op ≡ get_or copied_top_strings k 0
     → Split (strings_from slots k) (slot_entry slots (2 + k) op) (strings_from slots (k + 1))
 unfolding slot_entries
 strings-next slots k h op i =
@@ -80,7 +84,7 @@ strings-next slots k h op i =
           ∙ ap (λ (o : ℕ). slot_entry slots (2 + k) o ++ strings_from slots (k + 1)) (sym i);
     }
 
-pub strings-over : (slots : List ℕ) (k : ℕ) → 6 ≤ k → strings_from slots k ≡ []
+pub strings-over : (slots : List Slot) (k : ℕ) → 6 ≤ k → strings_from slots k ≡ []
 unfolding slot_entries
 strings-over slots k h = ap (slot_entries slots (2 + k)) (drop_of_length-le copied_top_strings {i = k} h)
 
@@ -120,7 +124,7 @@ copied-over es k h = ap (copied_bytes es) (drop_of_length-le copied_top_entries 
 
 -- ---- ROS and CIDCount
 
-module _ (slots : List ℕ) (es : List Entry) (r : Option RosEntry) (e : r ≡ ros_in es) where
+module _ (slots : List Slot) (es : List Entry) (r : Option RosEntry) (e : r ≡ ros_in es) where
   pub ros-none : r ≡ None → [] ≡ ros_of slots (ros_in es)
   unfolding ros_of
   ros-none f = ap (ros_of slots) (sym f ∙ e)
@@ -130,28 +134,8 @@ module _ (slots : List ℕ) (es : List Entry) (r : Option RosEntry) (e : r ≡ r
   unfolding ros_of
   ros_there registry ordering s f = record { is = sym (ap (ros_of slots) (sym f ∙ e)) }
 
-  pub ros-length : (registry ordering : ℕ) (s : Signed) → r ≡ a_ros registry ordering s → (a n : ℕ) → a ≡ length (ids_bytes slots)
-      → n ≡ length (number_bytes (normal s.neg s.size 0 0)) → a + n + 2 ≡ length (ros_of slots (ros_in es))
-  unfolding op_bytes_lem
-  ros-length registry ordering s f a n i j =
-      omega (
-        arith,
-        split-length (ros_there registry ordering s f),
-        length-append (number_bytes (normal s.neg s.size 0 0)) (op_bytes_lem ros),
-      )
-
-pub ids-length : (slots : List ℕ) (a b : ℕ) → a ≡ length (number_bytes (whole (get_or slots 8 0))) → b ≡ length (number_bytes (whole (get_or slots 9 0))) → a + b ≡ length (ids_bytes slots)
-ids-length slots a b i j = omega (arith, split-length (ids-parts slots))
-
 pub ros-rest : (s : Signed) → Split (number_bytes (normal s.neg s.size 0 0) ++ op_bytes_lem ros) (number_bytes (normal s.neg s.size 0 0)) (op_bytes_lem ros)
 ros-rest s = split-append (number_bytes (normal s.neg s.size 0 0)) (op_bytes_lem ros)
-
--- the new ids of registry and ordering are string ids
-pub registry_small : (slots : List ℕ) → Filled slots → get_or slots 8 0 < 1000000000000000
-registry_small slots f = omega (arith, f.small 0 (lit< tt))
-
-pub ordering-small : (slots : List ℕ) → Filled slots → get_or slots 9 0 < 1000000000000000
-ordering-small slots f = omega (arith, f.small 1 (lit< tt))
 
 size_small : (t : Bool) (v : ℕ) (s : Bool)
     → (pick {A = Signed} t (record { neg = false; size = 0 }) (record { neg = s; size = min v (pick s 2147483648 2147483647) })).size ≤ 2147483648
@@ -225,7 +209,7 @@ cid_length at₁ at₂ at₃ at₄ =
     rw (length-append, length-append, length-append)
     (omega (arith, offset-length 15 at₁ 1 refl, offset-length 3109 at₂ 2 refl, offset-length 17 at₃ 1 refl, offset-length 3108 at₄ 2 refl))
 
-module _ (es : List Entry) (slots : List ℕ) where
+module _ (es : List Entry) (slots : List Slot) where
   pub top-named-length : (at₁ v at₂ size at₃ : ℕ) → length (top_named es slots at₁ v at₂ size at₃) ≡ length (carried es slots) + (23 + encoding_len v)
   unfolding top_named
   top-named-length at₁ v at₂ size at₃ =
@@ -252,13 +236,70 @@ module _ (es : List Entry) (slots : List ℕ) where
   cid_measured v at₁ at₂ at₃ at₄ = top_cid_length 0 0 0 0 ∙ sym (top_cid_length at₁ at₂ at₃ at₄)
 
   -- the sums that the code makes
-  pub cid_sum : (cid : Bool) (v : ℕ) → cid ≡ true → (r n k : ℕ) → r ≡ length (ros_of slots (ros_in es)) → n ≡ length (carried es slots)
-      → k ≡ length (value_entry cid_count (cid_count_in es)) → r + n + k + 26 ≡ top_len cid v es slots
-  cid_sum cid v t r n k e f g =
-      let s : r + n + k + 26 ≡ top_len true v es slots = omega (arith, top_cid_length 0 0 0 0, front_length) in
+  pub cid_sum : (cid : Bool) (v : ℕ) → cid ≡ true → (n : ℕ) → n ≡ length (cid_front es slots) → n + 26 ≡ top_len cid v es slots
+  cid_sum cid v t n e =
+      let s : n + 26 ≡ top_len true v es slots = omega (arith, top_cid_length 0 0 0 0) in
       s ∙ ap (λ (x : Bool). top_len x v es slots) (sym t)
 
   pub named-sum : (cid : Bool) (v : ℕ) → cid ≡ false → (n k : ℕ) → n ≡ length (carried es slots) → k ≡ encoding_len v → n + 23 + k ≡ top_len cid v es slots
   named-sum cid v t n k e f =
       let s : n + 23 + k ≡ top_len false v es slots = omega (arith, top-named-length 0 v 0 0 0) in
       s ∙ ap (λ (x : Bool). top_len x v es slots) (sym t)
+
+-- ---- what stands before the offsets is not long
+
+value-short : (op n : ℕ) → n < 1000000000000000 → length (value_entry op n) ≤ 103
+value-short op n h = omega (arith, value-length op n, whole-short false n h, op_short op)
+
+slot-short : (slots : List Slot) → Filled slots → (j op : ℕ) → j < 8 → length (slot_entry slots j op) ≤ 103
+unfolding slot_entry
+slot-short slots f j op h =
+    pick_ind (λ (l : List ℕ). length l ≤ 103) (is_some (get_or slots j no_slot).sid) (value_entry op (get_or slots j no_slot).id) []
+    (λ e. value-short op (get_or slots j no_slot).id (slot_small slots j f h)) (λ e. omega arith)
+
+slots_short : (slots : List Slot) → Filled slots → (ops : List ℕ) (j : ℕ) → j + length ops ≤ 8 → length (slot_entries slots j ops) ≤ 103 * length ops
+unfolding slot_entries
+slots_short slots f [] j h = omega arith
+slots_short slots f (op ∷ ops) j h =
+    omega (arith, length-append (slot_entry slots j op) (slot_entries slots (j + 1) ops), slot-short slots f j op (omega arith), slots_short slots f ops (j + 1) (omega arith))
+
+copies_short : (es : List Entry) → ((op : ℕ) → length (copied_entry op (last_of op es)) ≤ 7000000000) → (ops : List ℕ) → length (copied_bytes es ops) ≤ 7000000000 * length ops
+unfolding copied_bytes
+copies_short es h [] = omega arith
+copies_short es h (op ∷ ops) = omega (arith, length-append (copied_entry op (last_of op es)) (copied_bytes es ops), h op, copies_short es h ops)
+
+ros-short : (slots : List Slot) → Filled slots → (es : List Entry) → length (ros_of slots (ros_in es)) ≤ 305
+unfolding ros_of ids_bytes
+ros-short slots f es = go (ros_in es) refl
+  where
+    go : (r : Option RosEntry) → r ≡ ros_in es → length (ros_of slots r) ≤ 305
+    go None e = omega arith
+    go (Some q) e =
+        rw (length-append, length-append, length-append)
+        (omega (
+          arith,
+          whole-short false (get_or slots 0 no_slot).id (slot_small slots 0 f (lit< tt)),
+          whole-short false (get_or slots 1 no_slot).id (slot_small slots 1 f (lit< tt)),
+          whole-short q.supplement.neg q.supplement.size (ros-small es (Some q) e q.registry q.ordering q.supplement refl),
+          op_short ros,
+        ))
+
+module _ (top : Top) where
+  copied-entry-short : (op : ℕ) → length (copied_entry op (last_of op (entries top.dict))) ≤ 7000000000
+  copied-entry-short op = omega (arith, copied-short top.dict.bytes.now top.octets op, top.short)
+
+  pub carried-short : length (carried (entries top.dict) top.slots.now) ≤ 60000000618
+  unfolding carried
+  carried-short =
+      rw length-append
+      (omega (arith, slots_short top.slots.now top.filled copied_top_strings 2 (lit≤ tt), copies_short (entries top.dict) copied-entry-short copied_top_entries))
+
+  pub front-short : length (cid_front (entries top.dict) top.slots.now) ≤ 60000001026
+  front-short =
+      omega (
+        arith,
+        front_length (entries top.dict) top.slots.now,
+        ros-short top.slots.now top.filled (entries top.dict),
+        carried-short,
+        value-short cid_count (cid_count_in (entries top.dict)) (count_small (entries top.dict)),
+      )

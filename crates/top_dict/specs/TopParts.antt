@@ -1,6 +1,6 @@
 -- The parts of the top DICT (document 01, 'Layout'), one behind the other, as the code writes them.
 use Rattle.std.specs.Prelude.{ℕ, ◌+◌, ◌≡◌, refl, List, [], ◌∷◌, ◌++◌, length, get_or}
-use Rattle.std.proofs.Common.{sym, ap, subst, ◌∙◌, append-nil, length-append}
+use Rattle.std.proofs.Common.{sym, ap, ◌∙◌, append-nil, length-append}
 use Rattle.octets.specs.Octets.{bytes_of}
 use Rattle.decimal.specs.Written.{number_bytes}
 use Rattle.dict.specs.Op.{cid_count, copied_top_entries}
@@ -10,6 +10,8 @@ use Rattle.dict_write.specs.Written.{op_bytes_lem, operands_bytes, entry_bytes, 
 use Rattle.index.specs.Write.{size_for, head_bytes, index_bytes}
 use Rattle.index.specs.WriteLaws.{index-single}
 use Rattle.decimal.specs.Decimal.{whole}
+use Rattle.own_strings.specs.Slots.{no_slot}
+use Rattle.own_strings.specs.declared.slots.Slot.{Slot}
 use Rattle.cff.specs.Font.{charset, char_strings, fd_array, fd_select_lem}
 use Rattle.subset.specs.Codes.{encoding_entry}
 use Rattle.subset.specs.Subset.{copied_bytes}
@@ -30,15 +32,11 @@ value-length op n = ap length (value-bytes op n) ∙ length-append (number_bytes
 pub value-parts : (op n : ℕ) → Split (value_entry op n) (number_bytes (whole n)) (op_bytes_lem op)
 value-parts op n = record { is = value-bytes op n }
 
-pub ids-parts : (slots : List ℕ) → Split (ids_bytes slots) (number_bytes (whole (get_or slots 8 0))) (number_bytes (whole (get_or slots 9 0)))
+pub ids-parts : (slots : List Slot) → Split (ids_bytes slots) (number_bytes (whole (get_or slots 0 no_slot).id)) (number_bytes (whole (get_or slots 1 no_slot).id))
 unfolding ids_bytes
 ids-parts slots = record { is = refl }
 
--- the same of the list that a type shows for them
-pub view-parts : (slots view : List ℕ) → slots ≡ view → Split (ids_bytes view) (number_bytes (whole (get_or slots 8 0))) (number_bytes (whole (get_or slots 9 0)))
-view-parts slots view e = subst (λ (l : List ℕ). Split (ids_bytes l) (number_bytes (whole (get_or slots 8 0))) (number_bytes (whole (get_or slots 9 0)))) e (ids-parts slots)
-
-pub carried-parts : (es : List Entry) (slots : List ℕ) → Split (carried es slots) (string_entries slots) (copied_bytes es copied_top_entries)
+pub carried-parts : (es : List Entry) (slots : List Slot) → Split (carried es slots) (string_entries slots) (copied_bytes es copied_top_entries)
 unfolding carried
 carried-parts es slots = record { is = refl }
 
@@ -64,21 +62,21 @@ cid-parts at₁ at₂ at₃ at₄ = record { is = refl }
 pub cid_rest : (at₃ at₄ : ℕ) → Split (offset_entry char_strings at₃ ++ offset_entry fd_array at₄) (offset_entry char_strings at₃) (offset_entry fd_array at₄)
 cid_rest at₃ at₄ = split-append (offset_entry char_strings at₃) (offset_entry fd_array at₄)
 
-pub top-named-parts : (es : List Entry) (slots : List ℕ) (at₁ v at₂ size at₃ : ℕ)
+pub top-named-parts : (es : List Entry) (slots : List Slot) (at₁ v at₂ size at₃ : ℕ)
     → Split (top_named es slots at₁ v at₂ size at₃) (carried es slots) (named_offsets at₁ v at₂ size at₃)
 unfolding top_named
 top-named-parts es slots at₁ v at₂ size at₃ = record { is = refl }
 
-pub front-parts : (es : List Entry) (slots : List ℕ)
+pub front-parts : (es : List Entry) (slots : List Slot)
     → Split (cid_front es slots) (ros_of slots (ros_in es)) (carried es slots ++ value_entry cid_count (cid_count_in es))
 unfolding cid_front
 front-parts es slots = record { is = refl }
 
-pub front_rest : (es : List Entry) (slots : List ℕ)
+pub front_rest : (es : List Entry) (slots : List Slot)
     → Split (carried es slots ++ value_entry cid_count (cid_count_in es)) (carried es slots) (value_entry cid_count (cid_count_in es))
 front_rest es slots = split-append (carried es slots) (value_entry cid_count (cid_count_in es))
 
-pub top_cid_parts : (es : List Entry) (slots : List ℕ) (at₁ at₂ at₃ at₄ : ℕ)
+pub top_cid_parts : (es : List Entry) (slots : List Slot) (at₁ at₂ at₃ at₄ : ℕ)
     → Split (top_cid es slots at₁ at₂ at₃ at₄) (cid_front es slots) (cid_offsets at₁ at₂ at₃ at₄)
 unfolding top_cid
 top_cid_parts es slots at₁ at₂ at₃ at₄ = record { is = refl }

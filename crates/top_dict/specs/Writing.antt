@@ -1,4 +1,4 @@
--- Parts that are measured or written one behind the other: what is done and what is left make the whole.
+-- Parts that are written one behind the other: what is done and what is left make the whole.
 use Rattle.std.specs.Prelude.{ℕ, ◌+◌, ◌≤◌, ◌≡◌, refl, List, [], ◌++◌, length}
 use Rattle.std.proofs.Common.{sym, ap, ◌∙◌, append_assoc, append-nil, arith, length-append}
 use Rattle.octets.specs.Octets.{Wrote}
@@ -17,19 +17,6 @@ split-length {all} {part} {more} s = ap length s.is ∙ length-append part more
 -- there is room for the first part
 pub split-room : {all part more : List ℕ} (at n : ℕ) → at + length all ≤ n → Split all part more → at + length part ≤ n
 split-room at n room s = omega (arith, split-length s)
-
--- ---- measuring: the length so far, and that of what is left, make that of all
-pub record Measuring (all left : List ℕ) (len : ℕ) : Type 0 where
-  pub rest : len + length left ≡ length all
-
-pub measuring_start : (all : List ℕ) → Measuring all all 0
-measuring_start all = record { rest = omega arith }
-
-pub measuring_turn : {all left part more : List ℕ} {len : ℕ} → Split left part more → Measuring all left len → (n : ℕ) → n ≡ length part → Measuring all more (len + n)
-measuring_turn s m n e = record { rest = omega (arith, m.rest, split-length s) }
-
-pub measuring_end : {all left : List ℕ} {len : ℕ} → Measuring all left len → left ≡ [] → len ≡ length all
-measuring_end m e = omega (arith, m.rest, ap length e)
 
 -- ---- writing: what is done stands in the output
 pub record Writing (all old : List ℕ) (at : ℕ) (left new : List ℕ) (p : ℕ) : Type 0 where

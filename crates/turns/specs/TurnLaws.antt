@@ -2,23 +2,25 @@
 use Rattle.std.specs.Prelude.{ℕ, ◌+◌, ◌-◌, ◌/◌, ◌≤◌, ◌<◌, ◌≡◌, Bool, List, ltb, eqb, ℤ, length, get_or, None, Option, Some}
 use Rattle.std.proofs.Math.Path.{refl, ap}
 use Rattle.std.proofs.Common.{sym, ◌∙◌, arith}
-use Rattle.std.proofs.Math.Bool.{true, false}
 use borrow.Author.Tests.{lt-ltb, le-ltb, ltb-true, ltb-false}
 use Rattle.octets.specs.Pick.{pick, pick_ind}
 use Rattle.octets.specs.Steps.{and}
 use Rattle.octets.specs.StepsLaws.{and_ind}
 use Rattle.type2_number.specs.Number.{Read, cut, operator, number, number_at}
 use Rattle.type2_number.specs.NumberLaws.{Further, further}
-use Rattle.charstring.specs.Bias.{bias_of, numbered}
+use Rattle.charstring.specs.Bias.{bias_of, numbered, last_at}
 use Rattle.charstring.specs.Token.{is_mask}
 use Rattle.unfold.specs.Unfold.{target_of, is_stem, is_path}
 use Rattle.turns.specs.TargetLaws.{zero_one}
-use Rattle.turns.specs.Turns.{Few, end_of, last_at, leaves, goes_on, call_turn, escape_turn, mask_turn, stem_turn, clearing_turn_lem, operator_turn_lem, turn_by, turn_at_lem}
+use Rattle.turns.specs.Turns.{Few, of_kind, leaves, goes_on, call_turn, escape_turn, mask_turn, stem_turn, clearing_turn_lem, operator_turn_lem, turn_by, turn_at_lem}
 use Rattle.turns.specs.declared.Counts.{Counts}
-use Rattle.turns.specs.declared.NumberEnd.{NumberEnd}
-use Rattle.turns.specs.declared.NumberEnd.TheVariants.{Cut, Operator, At}
+use Rattle.type2_number.specs.Answers.{number_of}
+use Rattle.type2_number.specs.declared.Number.{Number}
+use Rattle.type2_number.specs.declared.Number.TheVariants.{Num, Cut, Operator}
 use Rattle.turns.specs.declared.Turn.{Turn}
 use Rattle.turns.specs.declared.Turn.TheVariants.{Breaks, Returns, Ends, Goes, Masks, Calls}
+use Rattle.turns.specs.declared.Kind.{Kind}
+use Rattle.turns.specs.declared.Kind.TheVariants.{Local, Global}
 
 -- a subroutine that a number names is there
 abbrev Below : ℕ → Option ℕ → Type 0
@@ -39,7 +41,7 @@ Sound locals globals s at (Returns y) = Unit
 Sound locals globals s at Ends = Unit
 Sound locals globals s at (Goes n p y) = (at < n) × (n ≤ length s)
 Sound locals globals s at (Masks len y) = (len ≤ 12) × (at + 1 + len ≤ length s)
-Sound locals globals s at (Calls wide i y) = i < pick wide globals locals
+Sound locals globals s at (Calls kind i y) = i < of_kind kind locals globals
 
 module _ (locals globals : ℕ) (s : List ℕ) (at : ℕ) (h : at < length s) where
   abbrev S : Turn → Type 0
@@ -51,9 +53,9 @@ module _ (locals globals : ℕ) (s : List ℕ) (at : ℕ) (h : at < length s) wh
   goes_sound : (n p args stems spent : ℕ) → at < n → n ≤ length s → S (goes_on n p args stems spent)
   goes_sound n p args stems spent i j = leaves_sound args stems spent (Goes n p) (i, j)
 
-  call_sound : (wide : Bool) (x : Counts) (q : Option ℕ) → Below (pick wide globals locals) q → S (call_turn wide x q)
-  call_sound wide x None b = tt
-  call_sound wide x (Some i) b = b
+  call_sound : (kind : Kind) (x : Counts) (q : Option ℕ) → Below (of_kind kind locals globals) q → S (call_turn kind x q)
+  call_sound kind x None b = tt
+  call_sound kind x (Some i) b = b
 
   escape_sound : (x : Counts) → S (escape_turn s at x)
   escape_sound x =
@@ -86,8 +88,8 @@ module _ (locals globals : ℕ) (s : List ℕ) (at : ℕ) (h : at < length s) wh
   operator_sound : (own : Bool) (prev : ℕ) (x : Counts) (b : ℕ) → S (operator_turn_lem locals globals own s at prev x b)
   unfolding operator_turn_lem
   operator_sound own prev x b =
-      pick_ind S (eqb b 10) _ _ (λ t. call_sound false x (target_of locals (last_at s prev at)) (target_below locals (last_at s prev at)))
-      (λ t. pick_ind S (eqb b 29) _ _ (λ u. call_sound true x (target_of globals (last_at s prev at)) (target_below globals (last_at s prev at)))
+      pick_ind S (eqb b 10) _ _ (λ t. call_sound Local x (target_of locals (last_at s prev at)) (target_below locals (last_at s prev at)))
+      (λ t. pick_ind S (eqb b 29) _ _ (λ u. call_sound Global x (target_of globals (last_at s prev at)) (target_below globals (last_at s prev at)))
       (λ u. pick_ind S (eqb b 11) _ _ (λ v. pick_ind S own Breaks (Returns x) (λ w. tt) (λ w. tt))
       (λ v. pick_ind S (eqb b 14) _ _ (λ w. pick_ind S (ltb 1 x.args) Breaks _ (λ y. tt) (λ y. leaves_sound 0 x.stems x.spent (λ z. Ends) tt))
       (λ w. clearing_sound x b))))
@@ -108,7 +110,7 @@ FewAfter (Returns y) = Few y
 FewAfter Ends = Unit
 FewAfter (Goes n p y) = Few y
 FewAfter (Masks len y) = Few y
-FewAfter (Calls wide i y) = Few y
+FewAfter (Calls kind i y) = Few y
 
 module _ (s : List ℕ) (at : ℕ) where
   leaves_few : (args stems spent : ℕ) (go : Counts → Turn) → FewAfter (go (record { args = args; stems = stems; spent = spent + 1 })) → FewAfter (leaves args stems spent go)
@@ -117,9 +119,9 @@ module _ (s : List ℕ) (at : ℕ) where
   goes_few : (n p args stems spent : ℕ) → args ≤ 48 → stems ≤ 96 → FewAfter (goes_on n p args stems spent)
   goes_few n p args stems spent a b = leaves_few args stems spent (Goes n p) (record { operands = a; hints = b })
 
-  call_few : (wide : Bool) (x : Counts) → Few x → (q : Option ℕ) → FewAfter (call_turn wide x q)
-  call_few wide x f None = tt
-  call_few wide x f (Some i) = record { operands = omega (arith, f.operands); hints = f.hints }
+  call_few : (kind : Kind) (x : Counts) → Few x → (q : Option ℕ) → FewAfter (call_turn kind x q)
+  call_few kind x f None = tt
+  call_few kind x f (Some i) = record { operands = omega (arith, f.operands); hints = f.hints }
 
   escape_few : (x : Counts) → Few x → FewAfter (escape_turn s at x)
   escape_few x f =
@@ -148,8 +150,8 @@ module _ (s : List ℕ) (at : ℕ) where
   operator_few : (locals globals : ℕ) (own : Bool) (prev : ℕ) (x : Counts) (b : ℕ) → Few x → FewAfter (operator_turn_lem locals globals own s at prev x b)
   unfolding operator_turn_lem
   operator_few locals globals own prev x b f =
-      pick_ind FewAfter (eqb b 10) _ _ (λ t. call_few false x f (target_of locals (last_at s prev at)))
-      (λ t. pick_ind FewAfter (eqb b 29) _ _ (λ u. call_few true x f (target_of globals (last_at s prev at)))
+      pick_ind FewAfter (eqb b 10) _ _ (λ t. call_few Local x f (target_of locals (last_at s prev at)))
+      (λ t. pick_ind FewAfter (eqb b 29) _ _ (λ u. call_few Global x f (target_of globals (last_at s prev at)))
       (λ u. pick_ind FewAfter (eqb b 11) _ _ (λ v. pick_ind FewAfter own Breaks (Returns x) (λ w. tt) (λ w. f))
       (λ v. pick_ind FewAfter (eqb b 14) _ _ (λ w. pick_ind FewAfter (ltb 1 x.args) Breaks _ (λ y. tt) (λ y. leaves_few 0 x.stems x.spent (λ z. Ends) tt))
       (λ w. clearing_few x b f))))
@@ -167,27 +169,8 @@ module _ (s : List ℕ) (at : ℕ) where
 
 -- ---- the ways out of the code
 
--- the subroutine that a call names
-module _ (wide : Bool) (x : Counts) (q : Option ℕ) (r : Option ℕ) (e : r ≡ q) where
-  pub call_nowhere : r ≡ None → Breaks ≡ call_turn wide x q
-  call_nowhere f = by q (sym e ∙ f)
-    where
-      by : (p : Option ℕ) → p ≡ None → Breaks ≡ call_turn wide x p
-      by None k = refl
-      by (Some i) k = absurd (zero_one cc)
-
-  pub call_names : (i : ℕ) → r ≡ Some i → (n : ℕ) → n ≡ x.args - 1 → Calls wide i (record { args = n; stems = x.stems; spent = x.spent }) ≡ call_turn wide x q
-  call_names i f n g = by q (sym e ∙ f)
-    where
-      by : (p : Option ℕ) → p ≡ Some i → Calls wide i (record { args = n; stems = x.stems; spent = x.spent }) ≡ call_turn wide x p
-      by None k = absurd (zero_one cc)
-      by (Some j) k =
-          let h : i ≡ j = cc in
-          ap (λ (m : ℕ). Calls wide m (record { args = n; stems = x.stems; spent = x.spent })) h
-          ∙ ap (λ (m : ℕ). Calls wide j (record { args = m; stems = x.stems; spent = x.spent })) g
-
 -- what stands at a place
-module _ (locals globals : ℕ) (own : Bool) (s : List ℕ) (at prev : ℕ) (x : Counts) (r : NumberEnd) (e : r ≡ end_of (number_at s at)) where
+module _ (locals globals : ℕ) (own : Bool) (s : List ℕ) (at prev : ℕ) (x : Counts) (r : Number) (e : r ≡ number_of (number_at s at)) where
   abbrev T : Read → Turn
   T q = turn_by locals globals own s at prev x q
 
@@ -195,7 +178,7 @@ module _ (locals globals : ℕ) (own : Bool) (s : List ℕ) (at prev : ℕ) (x :
   unfolding turn_by
   turn-cut f = by (number_at s at) (sym e ∙ f)
     where
-      by : (q : Read) → end_of q ≡ Cut → Breaks ≡ T q
+      by : (q : Read) → number_of q ≡ Cut → Breaks ≡ T q
       by cut k = refl
       by operator k = absurd (zero_one cc)
       by (number z n) k = absurd (zero_one cc)
@@ -204,17 +187,17 @@ module _ (locals globals : ℕ) (own : Bool) (s : List ℕ) (at prev : ℕ) (x :
   unfolding turn_by
   turn-operator f t g = by (number_at s at) (sym e ∙ f)
     where
-      by : (q : Read) → end_of q ≡ Operator → t ≡ T q
+      by : (q : Read) → number_of q ≡ Operator → t ≡ T q
       by cut k = absurd (zero_one cc)
       by operator k = g
       by (number z n) k = absurd (zero_one cc)
 
-  module _ (n : ℕ) (f : r ≡ At n) where
+  module _ (v : ℤ) (n : ℕ) (f : r ≡ Num v n) where
     pub turn-number : x.args < 48 → (t : Turn) → t ≡ goes_on n at (x.args + 1) x.stems x.spent → t ≡ turn_at_lem locals globals own s at prev x
     unfolding turn_by
     turn-number l t g = by (number_at s at) (sym e ∙ f)
       where
-        by : (q : Read) → end_of q ≡ At n → t ≡ T q
+        by : (q : Read) → number_of q ≡ Num v n → t ≡ T q
         by cut k = absurd (zero_one cc)
         by operator k = absurd (zero_one cc)
         by (number z m) k = let h : n ≡ m = cc in rw (lt-ltb x.args 48 l) (g ∙ ap (λ (j : ℕ). goes_on j at (x.args + 1) x.stems x.spent) h)
@@ -223,7 +206,7 @@ module _ (locals globals : ℕ) (own : Bool) (s : List ℕ) (at prev : ℕ) (x :
     unfolding turn_by
     turn-full l = by (number_at s at) (sym e ∙ f)
       where
-        by : (q : Read) → end_of q ≡ At n → Breaks ≡ T q
+        by : (q : Read) → number_of q ≡ Num v n → Breaks ≡ T q
         by cut k = absurd (zero_one cc)
         by operator k = absurd (zero_one cc)
         by (number z m) k = rw (le-ltb x.args 48 l)

@@ -1,35 +1,26 @@
 -- What a token of a body brings (document 01, 'Plain glyphs'; crates/unfold), as the code goes: by the counts of what has run, without the
 -- tokens that it leaves and the rows that it meets. The number just before a place is told by where it starts.
-use Rattle.std.specs.Prelude.{ℤ, ℕ, ◌+◌, ◌-◌, ◌/◌, ◌≤◌, Bool, true, false, List, ltb, eqb, length, get_or, None, Option, Some}
+use Rattle.std.specs.Prelude.{ℕ, ◌+◌, ◌-◌, ◌/◌, ◌≤◌, Bool, List, ltb, eqb, length, get_or, None, Option, Some}
 use Rattle.octets.specs.Pick.{pick}
 use Rattle.type2_number.specs.Number.{Read, cut, operator, number, number_at}
+use Rattle.charstring.specs.Bias.{last_at}
 use Rattle.charstring.specs.Token.{is_mask}
 use Rattle.unfold.specs.Unfold.{target_of, is_stem, is_path}
 use Rattle.turns.specs.declared.Counts.{Counts}
 use Rattle.turns.specs.declared.Turn.{Turn}
 use Rattle.turns.specs.declared.Turn.TheVariants.{Breaks, Returns, Ends, Goes, Masks, Calls}
-use Rattle.turns.specs.declared.NumberEnd.{NumberEnd}
-use Rattle.turns.specs.declared.NumberEnd.TheVariants.{Cut, Operator, At}
+use Rattle.turns.specs.declared.Kind.{Kind}
+use Rattle.turns.specs.declared.Kind.TheVariants.{Local, Global}
 
 -- what holds of the counts of a run: at most 48 operands and 96 stems
 pub record Few (x : Counts) : Type 0 where
   pub operands : x.args ≤ 48
   pub hints : x.stems ≤ 96
 
--- the code's answers for what the definitions say
-abbrev pub end_of : Read → NumberEnd
-end_of cut = Cut
-end_of operator = Operator
-end_of (number z n) = At n
-
--- the number just before a place: the one that starts at `prev`, none where that is the place itself
-abbrev pub last_of : Read → Option ℤ
-last_of cut = None
-last_of operator = None
-last_of (number z n) = Some z
-
-abbrev pub last_at : List ℕ → ℕ → ℕ → Option ℤ
-last_at s prev at = pick (ltb prev at) (last_of (number_at s prev)) None
+-- of a thing for local and one for global subroutines, the one of the kind
+abbrev pub of_kind : {A : Type 0} → Kind → A → A → A
+of_kind Local local global = local
+of_kind Global local global = global
 
 -- one token more, its operands cleared or one more; at most 65,536 tokens and calls
 abbrev pub leaves : ℕ → ℕ → ℕ → (Counts → Turn) → Turn
@@ -39,9 +30,9 @@ abbrev pub goes_on : ℕ → ℕ → ℕ → ℕ → ℕ → Turn
 goes_on at prev args stems spent = leaves args stems spent (Goes at prev)
 
 -- a call: its operand is taken back, and what it had spent is the call's
-abbrev pub call_turn : Bool → Counts → Option ℕ → Turn
-call_turn wide x None = Breaks
-call_turn wide x (Some i) = Calls wide i (record { args = x.args - 1; stems = x.stems; spent = x.spent })
+abbrev pub call_turn : Kind → Counts → Option ℕ → Turn
+call_turn kind x None = Breaks
+call_turn kind x (Some i) = Calls kind i (record { args = x.args - 1; stems = x.stems; spent = x.spent })
 
 -- an escape: 34 to 37
 abbrev pub escape_turn : List ℕ → ℕ → Counts → Turn
@@ -69,8 +60,8 @@ clearing_turn_lem s at x b =
 -- the operator b at a place, by how many local and global subroutines there are, and whether the body is a glyph's own
 unfoldable pub operator_turn_lem : ℕ → ℕ → Bool → List ℕ → ℕ → ℕ → Counts → ℕ → Turn
 operator_turn_lem locals globals own s at prev x b =
-    pick (eqb b 10) (call_turn false x (target_of locals (last_at s prev at)))
-    (pick (eqb b 29) (call_turn true x (target_of globals (last_at s prev at)))
+    pick (eqb b 10) (call_turn Local x (target_of locals (last_at s prev at)))
+    (pick (eqb b 29) (call_turn Global x (target_of globals (last_at s prev at)))
     (pick (eqb b 11) (pick own Breaks (Returns x))
     (pick (eqb b 14) (pick (ltb 1 x.args) Breaks (leaves 0 x.stems x.spent (λ y. Ends))) (clearing_turn_lem s at x b))))
 

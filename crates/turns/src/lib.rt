@@ -3,14 +3,15 @@
 // starts, and read only at a call.
 #![tactic(auto)]
 
-ghost use Rattle.std.specs.Prelude.{◌≡◌, ◌-◌, ◌≤◌, ◌<◌, length, get_or, Some};
-ghost use Rattle.type2_number.specs.Number.{number_at};
+ghost use Rattle.std.specs.Prelude.{◌≡◌, ◌≤◌, ◌<◌, length, get_or};
 ghost use Rattle.unfold.specs.Unfold.{target_of, is_stem, is_path};
-ghost use Rattle.turns.specs.Turns.{end_of, last_at, goes_on, call_turn, mask_turn, escape_turn, clearing_turn_lem, operator_turn_lem, turn_at_lem};
+ghost use Rattle.charstring.specs.Bias.{last_at};
+ghost use Rattle.turns.specs.Turns.{goes_on, call_turn, mask_turn, escape_turn, clearing_turn_lem, operator_turn_lem, turn_at_lem};
 
+use charstring::is_mask;
+use charstring::operand::{number_before, number_named};
 use charstring::place::Place;
-use charstring::{bias, is_mask};
-use type2_number::{Number, Operand, count_of, read_number};
+use type2_number::{Number, read_number};
 
 // What has run so far: operands waiting, stems, tokens and calls spent. A glyph's run keeps to 48 operands and 96 stems; the counts may be any. (Counts
 // of one byte were tried, and a body's run takes a tenth more instructions.)
@@ -21,83 +22,36 @@ pub struct Counts {
     pub spent: usize,
 }
 
+// The kind of a subroutine: one of the glyph's FD, or one of the font's.
+#[derive(Clone, Copy)]
+pub enum Kind {
+    Local,
+    Global,
+}
+
 // What a token brings, with the counts after it: what is not plain; a return; endchar; the next place, and where the number just before that
-// starts, or the place again where there is none; a mask of so many bytes; a call of a global (true) or a local subroutine, by its number.
+// starts, or the place again where there is none; a mask of so many bytes; a call of a subroutine, by its kind and number.
+// (What is not plain stays a case: `Result<Turn, NotPlain>` was tried, and a body's run takes a sixth more instructions, with `?` in its loop more still.)
+// (`last` is no Option: it is where the number's bytes begin, so that they are none where there is no number, and None would say the same twice.)
 #[derive(Clone, Copy)]
 pub enum Turn {
     Breaks,
     Returns(Counts),
     Ends,
-    Goes(usize, usize, Counts),
-    Masks(usize, Counts),
-    Calls(bool, usize, Counts),
-}
-
-// Where the number at a place ends, or that the end cuts it off, or that an operator stands there.
-// (It stays an enum: an operator is no failure, and of a number that is cut off nothing more is said, so that an Option in a Result is no plainer.)
-#[derive(Clone, Copy)]
-pub enum NumberEnd {
-    Cut,
-    Operator,
-    At(usize),
-}
-
-// The same as read_number, without the number.
-fn number_end(p: &Place<'_>) -> NumberEnd
-    ensures { result ≡ end_of (number_at p.now.code.now p.now.at) }
-{
-    let at = p.at;
-    let left = p.code.len() - at;
-    let v = p.code[at];
-    if v < 32 {
-        if v == 28 {
-            if left < 3 {
-                return NumberEnd::Cut;
-            }
-            return NumberEnd::At(at + 3);
-        }
-        return NumberEnd::Operator;
-    }
-    if v < 247 {
-        return NumberEnd::At(at + 1);
-    }
-    if v < 255 {
-        if left < 2 {
-            return NumberEnd::Cut;
-        }
-        return NumberEnd::At(at + 2);
-    }
-    if left < 5 {
-        return NumberEnd::Cut;
-    }
-    NumberEnd::At(at + 5)
-}
-
-// The subroutine of `count` that a number names, if it names one.
-fn target_of(v: Operand, count: usize) -> Option<usize>
-    ensures { result ≡ target_of count (Some v) }
-{
-    let s = count_of(v);
-    let neg = s.neg;
-    let size = s.size;
-    let added = bias(count);
-    if size % 65536 != 0 {
-        return None;
-    }
-    let i = size / 65536;
-    if neg {
-        if added < i {
-            return None;
-        }
-        if added - i < count {
-            return Some(added - i);
-        }
-        return None;
-    }
-    if i + added < count {
-        return Some(i + added);
-    }
-    None
+    Goes {
+        next: usize,
+        last: usize,
+        after: Counts,
+    },
+    Masks {
+        len: usize,
+        after: Counts,
+    },
+    Calls {
+        kind: Kind,
+        number: usize,
+        after: Counts,
+    },
 }
 
 // The subroutine of `count` that the number just before a place names.
@@ -105,14 +59,8 @@ fn target_at(code: &[u8], prev: usize, at: usize, count: usize) -> Option<usize>
     requires { at ≤ length code.now }
     ensures { result ≡ target_of count (last_at code.now prev at) }
 {
-    if prev < at {
-        return match read_number(code, prev) {
-            Number::Num { value, next: _ } => target_of(value, count),
-            Number::Cut => None,
-            Number::Operator => None,
-        };
-    }
-    None
+    let number = number_named(count, number_before(code, prev, at)?)?;
+    (number < count).then_some(number)
 }
 
 // One token more, and on in the same body.
@@ -120,42 +68,35 @@ fn goes_on(at: usize, prev: usize, args: u32, stems: u32, spent: usize) -> Turn
     ensures { result ≡ goes_on at prev args stems spent }
 {
     if spent < 65536 {
-        return Turn::Goes(
-            at,
-            prev,
-            Counts {
+        return Turn::Goes {
+            next: at,
+            last: prev,
+            after: Counts {
                 args,
                 stems,
                 spent: spent + 1,
             },
-        );
+        };
     }
     Turn::Breaks
 }
 
-// One less, but not below 0.
-fn one_less(n: u32) -> u32
-    ensures { result ≡ n - 1 }
-{
-    n.saturating_sub(1)
-}
-
-// A call of one of `count` subroutines, global or local; it takes its operand back.
-fn call_turn(code: &[u8], prev: usize, at: usize, global: bool, count: usize, x: Counts) -> Turn
+// A call of one of `count` subroutines of a kind; it takes its operand back.
+fn call_turn(code: &[u8], prev: usize, at: usize, kind: Kind, count: usize, x: Counts) -> Turn
     requires { at ≤ length code.now }
-    ensures { result ≡ call_turn global x (target_of count (last_at code.now prev at)) }
+    ensures { result ≡ call_turn kind x (target_of count (last_at code.now prev at)) }
 {
-    match target_at(code, prev, at, count) {
-        None => Turn::Breaks,
-        Some(number) => Turn::Calls(
-            global,
-            number,
-            Counts {
-                args: one_less(x.args),
-                stems: x.stems,
-                spent: x.spent,
-            },
-        ),
+    let Some(number) = target_at(code, prev, at, count) else {
+        return Turn::Breaks;
+    };
+    Turn::Calls {
+        kind,
+        number,
+        after: Counts {
+            args: x.args.saturating_sub(1),
+            stems: x.stems,
+            spent: x.spent,
+        },
     }
 }
 
@@ -189,14 +130,14 @@ fn mask_turn(p: &Place<'_>, n: usize, spent: usize) -> Turn
         return Turn::Breaks;
     }
     if spent < 65536 {
-        return Turn::Masks(
+        return Turn::Masks {
             len,
-            Counts {
+            after: Counts {
                 args: 0,
                 stems: n as u32,
                 spent: spent + 1,
             },
-        );
+        };
     }
     Turn::Breaks
 }
@@ -205,38 +146,14 @@ fn mask_turn(p: &Place<'_>, n: usize, spent: usize) -> Turn
 fn is_stem(b: u8) -> bool
     ensures { result ≡ is_stem b }
 {
-    if b == 1 {
-        return true;
-    }
-    if b == 3 {
-        return true;
-    }
-    if b == 18 {
-        return true;
-    }
-    b == 23
+    matches!(b, 1 | 3 | 18 | 23)
 }
 
 // Whether an operator clears the operands and leaves itself, the masks and stems aside.
 fn is_path(b: u8) -> bool
     ensures { result ≡ is_path b }
 {
-    if b < 4 {
-        return false;
-    }
-    if b < 9 {
-        return true;
-    }
-    if b < 21 {
-        return false;
-    }
-    if b < 28 {
-        return true;
-    }
-    if b < 30 {
-        return false;
-    }
-    b < 32
+    matches!(b, 4..=8 | 21..=27 | 30 | 31)
 }
 
 // An operator that clears the operands, endchar aside.
@@ -278,10 +195,10 @@ fn operator_turn(
 {
     let b = p.code[p.at];
     if b == 10 {
-        return call_turn(p.code, prev, p.at, false, locals, x);
+        return call_turn(p.code, prev, p.at, Kind::Local, locals, x);
     }
     if b == 29 {
-        return call_turn(p.code, prev, p.at, true, globals, x);
+        return call_turn(p.code, prev, p.at, Kind::Global, globals, x);
     }
     if b == 11 {
         if own {
@@ -314,13 +231,12 @@ pub fn turn_at(
     requires { at < length code.now }
     ensures { result ≡ turn_at_lem locals globals own code.now at prev x }
 {
-    let p = Place { code, at };
-    match number_end(&p) {
-        NumberEnd::Cut => Turn::Breaks,
-        NumberEnd::Operator => operator_turn(&p, prev, x, locals, globals, own),
-        NumberEnd::At(n) => {
+    match read_number(code, at) {
+        Number::Cut => Turn::Breaks,
+        Number::Operator => operator_turn(&Place { code, at }, prev, x, locals, globals, own),
+        Number::Num { value: _, next } => {
             if x.args < 48 {
-                return goes_on(n, at, x.args + 1, x.stems, x.spent);
+                return goes_on(next, at, x.args + 1, x.stems, x.spent);
             }
             Turn::Breaks
         }

@@ -117,7 +117,8 @@ fn pair(a: u8, b: u8) -> usize
 }
 
 // What stands at a position: a number and the position after it, a number that the end cuts off, or an operator. Three cases are plainer than a Result of an
-// Option: an operator is neither absent nor an error.
+// Option: an operator is neither absent nor an error. (decimal reads a number of a DICT as a Result of an Option: there one that is cut off is a refusal, which
+// `?` hands on; here each caller has its own answer to it.)
 #[derive(Clone, Copy)]
 pub enum Number {
     Num { value: Operand, next: usize },
@@ -126,6 +127,7 @@ pub enum Number {
 }
 
 // The number of two bytes at a position, the first of which, 247 to 254, is v.
+#[inline(always)]
 fn two_bytes(code: &[u8], at: usize, v: usize) -> Number
     requires { (at < length code.now) × (v ≡ get_or code.now at 0) × (247 ≤ v) × (v < 255) }
     ensures { result ≡ number_of (number_at code.now at) }
@@ -147,6 +149,8 @@ fn two_bytes(code: &[u8], at: usize, v: usize) -> Number
 }
 
 // The Rust's `number`: all five forms of TN5177.
+// (Inlined: a glyph's run asks only where a number ends, and no number is made there.)
+#[inline(always)]
 pub fn read_number(code: &[u8], at: usize) -> Number
     requires { at < length code.now }
     ensures { result ≡ number_of (number_at code.now at) }

@@ -9,15 +9,15 @@ places_named-at-requires c = ready_planned c.args.c.now
 pub returns-then-end-gt-LONGEST : goal.returns-then-end-gt-LONGEST
 returns-then-end-gt-LONGEST c =
     let h = c.args.c.now.ready in
-    planned_long _ _ _ _ _ _ _ h.plan c.args.c.now.parts.name.now _ _ h.strings _ h.codes _ c.places_named-at.ensures c.args.out.now c.if-end-gt-LONGEST.true
+    planned_long _ _ _ _ _ _ _ h.plan c.args.c.now.parts.name.now _ _ h.strings _ _ h.codes _ c.places_named-at.ensures c.args.out.now c.if-end-gt-LONGEST.true
 
 pub returns-then-out-end : goal.returns-then-out-end
 returns-then-out-end c =
     let h = c.args.c.now.ready in
-    planned-room _ _ _ _ _ _ _ h.plan c.args.c.now.parts.name.now _ _ h.strings _ h.codes _ c.places_named-at.ensures c.args.out.now c.if-end-gt-LONGEST.false c.if-out-end.true
+    planned-room _ _ _ _ _ _ _ h.plan c.args.c.now.parts.name.now _ _ h.strings _ _ h.codes _ c.places_named-at.ensures c.args.out.now c.if-end-gt-LONGEST.false c.if-out-end.true
 
 pub returns : goal.returns
 returns c =
     let h = c.args.c.now.ready in
-    planned-written _ _ _ _ _ _ _ h.plan c.args.c.now.parts.name.now _ _ h.strings _ h.codes _ c.places_named-at.ensures c.args.out.now c.if-end-gt-LONGEST.false c.if-out-end.false
+    planned-written _ _ _ _ _ _ _ h.plan c.args.c.now.parts.name.now _ _ h.strings _ _ h.codes _ c.places_named-at.ensures c.args.out.now c.if-end-gt-LONGEST.false c.if-out-end.false
     _ _ c.put_named.ensures.0

@@ -20,10 +20,8 @@ gather-o-requires c =
 pub plan_cut-requires : goal.plan_cut-requires
 plan_cut-requires c =
     let a = c.args in
-    let g = c.gather-o.ensures in (
-      gathered-asked a.ask _ a.asked.now.rows.now a.asked.now.name.now (flag_of a.asked.now.traced) _ a.font.now.held a.keep.now a.words.now c.requires.0 c.gather-o.result _ _ g.0 g.1 g.2 c.gather-o.auto.words,
-      c.requires.2,
-    )
+    let g = c.gather-o.ensures in
+    gathered-asked a.ask _ a.asked.now.rows.now a.asked.now.name.now (flag_of a.asked.now.traced) _ a.font.now.held a.keep.now a.words.now c.requires.0 c.gather-o.result _ _ g.0 g.1 g.2 c.gather-o.auto.words
 
 pub returns-in_err-coded : goal.returns-in_err-coded
 returns-in_err-coded c =
@@ -31,19 +29,19 @@ returns-in_err-coded c =
     let g = c.gather-o.ensures in
     handed_on _ _ (CutsAs (cut_behind a.ask (program a.font.now.loaded) a.asked.now.name.now a.keep.now a.asked.now.rows.now (flag_of a.asked.now.traced))) c.from_residual.ensures.1
     (λ out. gathered-cut a.ask _ a.asked.now.rows.now a.asked.now.name.now (flag_of a.asked.now.traced) _ a.font.now.held a.keep.now a.words.now c.requires.0 c.gather-o.result _ _ g.0 g.1 g.2 out _ _
-    (prepared-err a.ask _ a.asked.now.rows.now (flag_of a.asked.now.traced) c.gather-o.result _ _ _ _ _ _ c.plan_cut.ensures _ c.in_err-coded.was a.asked.now.name.now out))
+    (prepared-err a.ask _ a.asked.now.rows.now (flag_of a.asked.now.traced) c.gather-o.result _ _ _ _ _ _ _ c.plan_cut.ensures _ c.in_err-coded.was a.asked.now.name.now out))
 
 pub new-requires : goal.new-requires
 new-requires c =
     let a = c.args in
-    let p = prepared_ok a.ask _ a.asked.now.rows.now (flag_of a.asked.now.traced) c.gather-o.result _ _ _ _ _ _ c.plan_cut.ensures _ c.in_ok-coded.was in
+    let p = prepared_ok a.ask _ a.asked.now.rows.now (flag_of a.asked.now.traced) c.gather-o.result _ _ _ _ _ _ _ c.plan_cut.ensures _ c.in_ok-coded.was in
     (p.gathered, record { plan = p.plan; strings = p.strings _ c.requires.0.named; codes = p.codes; walked = record { f = refl; count = refl } })
 
 pub returns : goal.returns
 returns c =
     let a = c.args in
     let g = c.gather-o.ensures in
-    let p = prepared_ok a.ask _ a.asked.now.rows.now (flag_of a.asked.now.traced) c.gather-o.result _ _ _ _ _ _ c.plan_cut.ensures _ c.in_ok-coded.was in
+    let p = prepared_ok a.ask _ a.asked.now.rows.now (flag_of a.asked.now.traced) c.gather-o.result _ _ _ _ _ _ _ c.plan_cut.ensures _ c.in_ok-coded.was in
     λ out out' r x.
     gathered-cut a.ask _ a.asked.now.rows.now a.asked.now.name.now (flag_of a.asked.now.traced) _ a.font.now.held a.keep.now a.words.now c.requires.0 c.gather-o.result _ _ g.0 g.1 g.2 out _ _
-    (p.cuts a.asked.now.name.now out _ _ (subst (λ (z : Outcome). Cut z out out' r) (made-outcome c.new.result _ _ _ _ c.new.ensures (length out)) x))
+    (p.cuts a.asked.now.name.now out _ _ (subst (λ (z : Outcome). Cut z out out' r) (made-outcome c.new.result _ _ _ _ _ c.new.ensures (length out)) x))

@@ -5,6 +5,6 @@ use Rattle.charstring_cases.proofs.put_count.Goals as goal
 
 pub returns : goal.returns
 returns c = (
-  rw (c.num.ensures.0, c.byte.ensures.0, append_assoc) (ap (λ (l : List ℕ). c.args.to.now ++ l) (count_is _ _ _ _ c.count_of-s.ensures.0 c.count_of-s.ensures.1 c.sign_of.ensures)),
+  rw (c.num.ensures.0, c.byte.ensures.0, append_assoc) (ap (λ (l : List ℕ). c.args.to.now ++ l) (count_is _ _ _ _ c.count_of-s.ensures.0 c.count_of-s.ensures.1 c.from.ensures)),
   omega (arith, c.num.ensures.1, c.byte.ensures.1),
 )

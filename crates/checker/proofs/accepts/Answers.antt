@@ -1,5 +1,5 @@
 -- `checker::accepts` meets its contract: the marked glyphs are the kept ones.
-use Rattle.std.proofs.Common.{refl}
+use Rattle.std.proofs.Common.{refl, ◌∙◌}
 use Rattle.kept.specs.SlotLaws.{flags_long, flags_marked}
 use Rattle.checker.specs.CheckLaws.{accepts_not, accepts_as}
 use Rattle.checker.proofs.accepts.Goals as goal
@@ -17,7 +17,7 @@ returns-then-numbers_are c =
     let t = c.args.font.now in
     accepts_as t.loaded.bytes.now t.loaded.f t.held.font c.args.keep.now _ _ c.mark.ensures c.args.rows.now _ c.numbers_are.ensures c.if-numbers_are.true _ c.lists_met.ensures
 
-pub returns : goal.returns
-returns c =
+pub returns-else-numbers_are : goal.returns-else-numbers_are
+returns-else-numbers_are c =
     let t = c.args.font.now in
-    accepts_not t.loaded.bytes.now t.loaded.f t.held.font c.args.keep.now _ _ c.mark.ensures c.args.rows.now _ c.numbers_are.ensures c.if-numbers_are.false
+    c.if-numbers_are.false ∙ accepts_not t.loaded.bytes.now t.loaded.f t.held.font c.args.keep.now _ _ c.mark.ensures c.args.rows.now _ c.numbers_are.ensures c.if-numbers_are.false

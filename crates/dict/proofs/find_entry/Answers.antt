@@ -1,22 +1,25 @@
 -- `dict::find_entry` meets its contract: what was found so far, and what is left of the DICT, give what the whole does.
-use Rattle.std.proofs.Common.{arith}
-use Rattle.dict.proofs.WalkLaws.{answered, finding_end, finding_stopped, finding_here, finding_on}
+use Rattle.std.proofs.Common.{ap, ◌∙◌}
+use Rattle.dict.specs.Ahead.{entries_left}
+use Rattle.dict.proofs.EntriesLaws.{left-next, left_done}
+use Rattle.dict.proofs.WalkLaws.{finding_start, finding_end, finding_stopped, finding_here, finding_on}
 use Rattle.dict.proofs.find_entry.Goals as goal
 
-pub loop-at-smaller-then-entry-op : goal.loop-at-smaller-then-entry-op
-loop-at-smaller-then-entry-op c = let s = (answered _ _ c.loop-at-test.true _ c.read_entry.ensures _ c.in-Ok.is).stands in omega (arith, s.further, s.inside)
+pub loop-entry-init : goal.loop-entry-init
+loop-entry-init c = record { at = 0; rest = ap entries_left c.into_iter-entry-iterator.ensures.into_iter_gives ∙ c.new-entry-items.ensures; so = finding_start _ _ }
 
-pub loop-at-preserved-then-entry-op : goal.loop-at-preserved-then-entry-op
-loop-at-preserved-then-entry-op c = finding_here _ _ _ _ c.loop-at.invariant c.loop-at-test.true _ c.read_entry.ensures _ c.in-Ok.is c.if-entry-op.true
+pub loop-entry-preserved-then-entry-op : goal.loop-entry-preserved-then-entry-op
+loop-entry-preserved-then-entry-op c =
+    let n = left-next _ _ _ c.loop-entry.invariant _ _ c.in-Some.ensures.steps in
+    record { at = c.in-Ok.entry.next; rest = n.on _ c.in-Ok.is; so = finding_here _ _ _ _ c.loop-entry.invariant.so n.inside _ n.first _ c.in-Ok.is c.if-entry-op.true }
 
-pub loop-at-smaller : goal.loop-at-smaller
-loop-at-smaller c = let s = (answered _ _ c.loop-at-test.true _ c.read_entry.ensures _ c.in-Ok.is).stands in omega (arith, s.further, s.inside)
-
-pub loop-at-preserved : goal.loop-at-preserved
-loop-at-preserved c = finding_on _ _ _ _ c.loop-at.invariant c.loop-at-test.true _ c.read_entry.ensures _ c.in-Ok.is c.if-entry-op.false
+pub loop-entry-preserved : goal.loop-entry-preserved
+loop-entry-preserved c =
+    let n = left-next _ _ _ c.loop-entry.invariant _ _ c.in-Some.ensures.steps in
+    record { at = c.in-Ok.entry.next; rest = n.on _ c.in-Ok.is; so = finding_on _ _ _ _ c.loop-entry.invariant.so n.inside _ n.first _ c.in-Ok.is c.if-entry-op.false }
 
 pub returns-in-Err : goal.returns-in-Err
-returns-in-Err c = finding_stopped _ _ _ _ c.loop-at.invariant c.loop-at-test.true _ c.read_entry.ensures _ c.in-Err.is
+returns-in-Err c = let n = left-next _ _ _ c.loop-entry.invariant _ _ c.in-Some.ensures.steps in finding_stopped _ _ _ _ c.loop-entry.invariant.so n.inside _ n.first _ c.in-Err.is
 
 pub returns : goal.returns
-returns c = finding_end _ _ _ _ c.loop-at.invariant c.loop-at-test.false
+returns c = let i = c.loop-entry.invariant in finding_end _ _ _ _ i.so (left_done _ _ _ i c.in-None.ensures.steps.0)

@@ -1,9 +1,7 @@
-use Rattle.std.proofs.Common.{length, ◌-◌}
+use Rattle.dict.specs.Ahead.{entries_left}
+use Rattle.dict.proofs.EntriesLaws.{Left}
 use Rattle.dict.proofs.WalkLaws.{Finding}
 use Rattle.dict.proofs.find_entry.Given as goal
 
-abbrev pub invariant-loop-at : goal.invariant-loop-at
-invariant-loop-at l = Finding l.d l.op l.at l.found
-
-abbrev pub decreases-loop-at : goal.decreases-loop-at
-decreases-loop-at l = length l.d - l.at
+abbrev pub invariant-loop-entry : goal.invariant-loop-entry
+invariant-loop-entry l = Left l.d (entries_left l.entry-iterator) (λ at. Finding l.d l.op at l.found)

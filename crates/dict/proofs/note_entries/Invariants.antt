@@ -1,9 +1,7 @@
-use Rattle.std.proofs.Common.{length, ◌-◌}
+use Rattle.dict.specs.Ahead.{entries_left}
+use Rattle.dict.proofs.EntriesLaws.{Left}
 use Rattle.dict.proofs.NotedLaws.{Noting}
 use Rattle.dict.proofs.note_entries.Given as goal
 
-abbrev pub invariant-loop-at : goal.invariant-loop-at
-invariant-loop-at l = Noting l.subsetting l.d l.at l.last
-
-abbrev pub decreases-loop-at : goal.decreases-loop-at
-decreases-loop-at l = length l.d - l.at
+abbrev pub invariant-loop-entry : goal.invariant-loop-entry
+invariant-loop-entry l = Left l.d (entries_left l.entry-iterator) (λ at. Noting l.subsetting l.d at l.last)

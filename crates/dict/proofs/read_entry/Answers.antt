@@ -9,7 +9,7 @@ use Rattle.dict.proofs.read_entry.Goals as goal
 
 pub returns-in_err-next : goal.returns-in_err-next
 returns-in_err-next c =
-    handed_on _ _ (λ q. q ≡ entry_told 0 (entry_at c.args.d.now c.args.start)) c.from_residual.ensures.1
+    handed_on _ _ (λ q. q ≡ entry_told c.args.start 0 (entry_at c.args.d.now c.args.start)) c.from_residual.ensures.1
     (counting_refused _ _ _ _ c.loop-at.invariant c.loop-at-test.true _ c.token_at.ensures _ c.in_err-next.was)
 
 pub loop-at-smaller : goal.loop-at-smaller

@@ -5,6 +5,3 @@ use Rattle.dict_write.proofs.private_len.Goals as goal
 
 pub private-requires : goal.private-requires
 private-requires c = omega (arith, private-short c.args.d.now (λ i. (c.type_inv.d i).fits), c.requires)
-
-pub returns : goal.returns
-returns c = omega (arith, c.private.ensures.more)

@@ -10,13 +10,13 @@ pub returns-in-Expert : goal.returns-in-Expert
 returns-in-Expert c = expert-wrote _ _ _ c.in-Expert.is
 
 pub pair-requires : goal.pair-requires
-pair-requires c = omega (arith, whole_room c.args.out.now c.args.table.now c.args.e c.requires.0 _ c.in-Pairs.is c.requires.3)
+pair-requires c = omega (arith, whole_room c.args.out.now c.args.table.now c.args.e c.requires.0 _ c.in-Pairs.is c.requires.2)
 
 pub byte-requires : goal.byte-requires
-byte-requires c = count_room _ _ c.args.e c.requires.0 _ c.in-Pairs.is c.requires.3 c.pair.ensures
+byte-requires c = count_room _ _ c.args.e c.requires.0 _ c.in-Pairs.is c.requires.2 c.pair.ensures
 
 pub put_pairs-requires : goal.put_pairs-requires
-put_pairs-requires c = (c.requires.2, pairs-room _ _ c.args.e c.requires.0 _ c.in-Pairs.is c.requires.3 c.pair.ensures c.byte.ensures)
+put_pairs-requires c = pairs-room _ _ c.args.e c.requires.0 _ c.in-Pairs.is c.requires.2 c.pair.ensures c.byte.ensures
 
 pub returns-in-Pairs : goal.returns-in-Pairs
-returns-in-Pairs c = whole-wrote _ _ c.args.e c.requires.0 _ c.in-Pairs.is c.requires.3 c.pair.ensures c.byte.ensures c.put_pairs.ensures
+returns-in-Pairs c = whole-wrote _ _ c.args.e c.requires.0 _ c.in-Pairs.is c.requires.2 c.pair.ensures c.byte.ensures c.put_pairs.ensures

@@ -17,10 +17,10 @@ word w = stays-word _ _ w.loop-i.invariant.0 _ w.loop-i-test.true _ w.word-w.ens
 
 pub loop-i-init : goal.loop-i-init
 loop-i-init c =
-    let p = c.requires.0 in (
+    let p = c.requires in (
       stays-refl _,
-      naming-start c.args.kept.now _ _ c.octets_in.ensures (record { small = p.has.small; given = p.given; apart = p.apart }) c.slots_own-own.ensures,
-      renaming_start _ _ _ _ _ _ c.empty-top.ensures,
+      naming-start c.args.kept.now _ _ (record { small = p.has.small; given = p.given; apart = p.apart }) c.slots_own-own.ensures,
+      renaming_start _ _ _ _,
     )
 
 pub given_id-id-requires : goal.given_id-id-requires
@@ -29,9 +29,9 @@ given_id-id-requires c = naming_asks _ _ _ _ _ _ c.loop-i.invariant.1
 pub count_one-own-requires : goal.count_one-own-requires
 count_one-own-requires c = naming_counts _ _ _ _ _ _ c.loop-i.invariant.1
 
-pub overflow_add-id : goal.overflow_add-id
-overflow_add-id c =
-    let s = goal.at.overflow_add-id c in
+pub overflow_cast-id : goal.overflow_cast-id
+overflow_cast-id c =
+    let s = goal.at.overflow_cast-id c in
     omega (arith, naming-below _ _ _ _ _ _ c.loop-i.invariant.1 (more s.In-loop-i) _ (word s.After-word-w) _ c.given_id-id.ensures)
 
 pub loop-i-preserved : goal.loop-i-preserved
@@ -47,7 +47,7 @@ loop-i-preserved c =
       renaming_next _ _ _ _ _ _ c.loop-i.invariant.2 (omega (arith, m, glyphs_many k.font.now k.o.f k.words.now)) _ _
           (stays-glyph _ _ c.loop-i.invariant.0 _ c.loop-i-test.true _ c.word-w.ensures.0)
           (naming_id _ _ _ _ _ _ n m _ w _ id
-          ∙ order_id k.font.now k.o.f k.words.now k.gathered.good.glyphs.held.few c.args.slots.now c.requires.0.front c.loop-i.i m) _ c.put_id.ensures,
+          ∙ order_id k.font.now k.o.f k.words.now k.gathered.good.glyphs.held.few c.args.slots.now c.requires.front c.loop-i.i m) _ c.put_id.ensures,
     )
 
 pub returns : goal.returns

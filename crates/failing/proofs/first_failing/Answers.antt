@@ -9,12 +9,12 @@ use Rattle.failing.proofs.first_failing.Goals as goal
 pub returns-then-not-is_made : goal.returns-then-not-is_made
 returns-then-not-is_made c =
     let by = c.args.by.now in
-    zero-fails (program by.list.font.loaded) (rows_of by.rows.now) by.list.keep.now (turned_true c.is_made.result (not_from_false _ c.if-not-is_made.true) ∙ c.is_made.ensures)
+    zero-fails (program by.list.font.loaded) (rows_of by.rows.bytes.now) by.list.keep.now (turned_true c.is_made.result (not_from_false _ c.if-not-is_made.true) ∙ c.is_made.ensures)
 
 pub loop-k-init : goal.loop-k-init
 loop-k-init c =
     let by = c.args.by.now in
-    asking_start (program by.list.font.loaded) (rows_of by.rows.now) by.list.keep.now (turned_false c.is_made.result (not_from_true _ c.if-not-is_made.false) ∙ c.is_made.ensures)
+    asking_start (program by.list.font.loaded) (rows_of by.rows.bytes.now) by.list.keep.now (turned_false c.is_made.result (not_from_true _ c.if-not-is_made.false) ∙ c.is_made.ensures)
 
 pub is_made-requires-in-loop-k : goal.is_made-requires-in-loop-k
 is_made-requires-in-loop-k c =
@@ -27,18 +27,18 @@ pub loop-k-preserved : goal.loop-k-preserved
 loop-k-preserved c =
     let l = c.loop-k in
     let by = c.args.by.now in
-    asking_next (program by.list.font.loaded) (rows_of by.rows.now) by.list.keep.now l.k-index l.invariant (omega arith)
+    asking_next (program by.list.font.loaded) (rows_of by.rows.bytes.now) by.list.keep.now l.k-index l.invariant (omega arith)
     (turned_false c.is_made-in-loop-k.result (not_from_true _ c.if-not-is_made-2.false) ∙ c.is_made-in-loop-k.ensures)
 
 pub returns-then-not-is_made-2 : goal.returns-then-not-is_made-2
 returns-then-not-is_made-2 c =
     let l = c.loop-k in
     let by = c.args.by.now in
-    asking_found (program by.list.font.loaded) (rows_of by.rows.now) by.list.keep.now l.k-index l.invariant (omega arith)
+    asking_found (program by.list.font.loaded) (rows_of by.rows.bytes.now) by.list.keep.now l.k-index l.invariant (omega arith)
     (turned_true c.is_made-in-loop-k.result (not_from_false _ c.if-not-is_made-2.true) ∙ c.is_made-in-loop-k.ensures)
 
 pub returns : goal.returns
 returns c =
     let l = c.loop-k in
     let by = c.args.by.now in
-    asking_done (program by.list.font.loaded) (rows_of by.rows.now) by.list.keep.now l.k-index l.invariant (omega arith)
+    asking_done (program by.list.font.loaded) (rows_of by.rows.bytes.now) by.list.keep.now l.k-index l.invariant (omega arith)

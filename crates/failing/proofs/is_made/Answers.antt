@@ -10,10 +10,10 @@ invariant_of-body c =
     let by = c.args.by.now in
     record {
       octets = subst Octets (sym c.item.ensures.0) (by.list.font.held.program.charstrings.octets c.args.g);
-      inputs = glyph_asks by.list.font.loaded.bytes.now by.list.font.loaded.f (rows_of by.rows.now) by.used.now by.words.now by.globals by.table.now by.rising by.asks c.args.g c.requires.0 c.requires.1 _ c.fd_of-fd.ensures _ refl _ c.item.ensures.0;
+      inputs = glyph_asks by.list.font.loaded.bytes.now by.list.font.loaded.f (rows_of by.rows.bytes.now) by.used.now by.words.now by.globals by.table.now by.asks c.args.g c.requires.0 c.requires.1 _ c.fd_of-fd.ensures _ refl _ c.item.ensures.0;
     }
 
 pub returns : goal.returns
 returns c =
     let by = c.args.by.now in
-    c.is_some.ensures ∙ glyph_holds by.list.font.loaded.bytes.now by.list.font.loaded.f (rows_of by.rows.now) by.used.now by.words.now by.globals by.table.now by.rising by.asks c.args.g c.requires.0 c.requires.1 _ c.fd_of-fd.ensures _ refl _ c.item.ensures.0 _ c.renumbered_len.ensures
+    c.is_some.ensures ∙ glyph_holds by.list.font.loaded.bytes.now by.list.font.loaded.f (rows_of by.rows.bytes.now) by.used.now by.words.now by.globals by.table.now by.asks c.args.g c.requires.0 c.requires.1 _ c.fd_of-fd.ensures _ refl _ c.item.ensures.0 _ c.renumbered_len.ensures

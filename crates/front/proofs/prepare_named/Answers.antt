@@ -5,7 +5,7 @@ use Rattle.front.proofs.prepare_named.Goals as goal
 pub count_names-requires : goal.count_names-requires
 count_names-requires c =
     let e = c.prepare_slots-own.ensures in
-    (record { small = c.before.requires.0; given = e.0.given; apart = c.before.requires.2 }, e.1)
+    (record { small = c.before.requires.0; given = e.0.given; apart = c.before.requires.1 }, e.1)
 
 pub returns : goal.returns
 returns c =

@@ -1,4 +1,5 @@
 -- `front::put_front_cid` meets its contract: header and names, the INDEX of the top DICT, and that of the strings.
+use Rattle.std.proofs.Common.{rules}
 use Rattle.front.specs.ByCidLaws.{names-asked, top-asked, own-asked, all-wrote}
 use Rattle.std.specs.Prelude.{true}
 use Rattle.front.specs.FrontLaws.{ready_filled}
@@ -9,8 +10,8 @@ put_names-requires c =
     let a = c.args in
     names-asked a.font.now a.slots.now a.own a.name.now a.out.now c.requires.2 c.requires.0 a.at.end a.at.charset a.at.select a.at.glyphs a.at.dicts
 
-pub invariant_of-read : goal.invariant_of-read
-invariant_of-read c = ready_filled _ _ true _ c.requires.0.font c.requires.0.ready
+pub read-top-requires : goal.read-top-requires
+read-top-requires c = (search rules, ready_filled _ _ true _ c.requires.0.font c.requires.0.ready)
 
 pub put_cid_index-requires : goal.put_cid_index-requires
 put_cid_index-requires c =

@@ -1,6 +1,5 @@
 -- `glyph_bodies::put_by_windows` meets its contract.
 use Rattle.std.proofs.Common.{arith, refl}
-use Rattle.mask_rows.specs.FillLaws.{covers-none}
 use Rattle.order_window.specs.Stays.{stays-refl, stays-then}
 use Rattle.record.specs.Record.{rows_of}
 use Rattle.glyph_bodies.specs.LoopLaws.{asked_again, glyph_asked}
@@ -16,7 +15,7 @@ overflow_add-out c =
     omega (arith, charstrings-meant c.args.all c.args.out.now c.requires c.index_for-to.ensures c.put_head.new.out c.put_head.ensures.size, c.requires.early)
 
 pub loop-i-init : goal.loop-i-init
-loop-i-init c = (put-start c.args.all c.args.out.now c.requires c.index_for-to.ensures _ c.put_head.ensures.size refl, stays-refl _, covers-none _ _ _ _)
+loop-i-init c = (put-start c.args.all c.args.out.now c.requires c.index_for-to.ensures _ c.put_head.ensures.size refl, stays-refl _, tt)
 
 pub advance-masks-requires : goal.advance-masks-requires
 advance-masks-requires c =

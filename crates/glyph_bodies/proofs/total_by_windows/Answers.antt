@@ -1,6 +1,5 @@
 -- `glyph_bodies::total_by_windows` meets its contract.
 use Rattle.std.proofs.Common.{arith, refl}
-use Rattle.mask_rows.specs.FillLaws.{covers-none}
 use Rattle.record.specs.Record.{rows_of}
 use Rattle.order_window.specs.Stays.{stays-refl, stays-then}
 use Rattle.bodies.specs.Ways.{every}
@@ -10,7 +9,7 @@ use Rattle.glyph_bodies.specs.PartLaws.{fills_glyph}
 use Rattle.glyph_bodies.proofs.total_by_windows.Goals as goal
 
 pub loop-i-init : goal.loop-i-init
-loop-i-init c = (adding_start _ every _, stays-refl _, covers-none _ _ _ _)
+loop-i-init c = (adding_start _ every _, stays-refl _, tt)
 
 pub advance-masks-requires : goal.advance-masks-requires
 advance-masks-requires c =

@@ -1,32 +1,27 @@
--- `hexlines::hex_value` meets its contract: its tests are those of `hex_value_lem`, in the same order.
-use Rattle.std.proofs.Common.{arith, le-leb, le-ltb, lt-ltb, rules}
+-- `hexlines::hex_value` meets its contract: its ranges are those of `hex_value_lem`, and the gaps between them.
+use Rattle.std.proofs.Common.{arith, le-leb, le-ltb, lt-ltb}
 use borrow.Author.Tests.{lt-leb}
 use Rattle.hexlines.specs.Hexlines.{hex_value_lem}
 use Rattle.hexlines.proofs.hex_value.Goals as goal
 
-pub returns-then-b-lt48 : goal.returns-then-b-lt48
+pub returns-in-48-to-57 : goal.returns-in-48-to-57
 unfolding hex_value_lem
-returns-then-b-lt48 c = (simp (lt-ltb _ _ c.if-b-lt48.true), search rules)
+returns-in-48-to-57 c = simp (le-ltb c.args.b 48 (omega arith), le-leb c.args.b 57 (omega arith))
 
-pub returns-then-b-le57 : goal.returns-then-b-le57
+pub returns-in-97-to-102 : goal.returns-in-97-to-102
 unfolding hex_value_lem
-returns-then-b-le57 c =
-    (simp (le-ltb _ _ c.if-b-lt48.false, le-leb _ _ c.if-b-le57.true) (omega arith), omega arith)
+returns-in-97-to-102 c = let b = c.args.b in
+    simp (le-ltb b 48 (omega arith), lt-leb b 57 (omega arith), le-ltb b 97 (omega arith), le-leb b 102 (omega arith))
 
-pub returns-then-b-lt97 : goal.returns-then-b-lt97
+pub returns-in_default : goal.returns-in_default
 unfolding hex_value_lem
-returns-then-b-lt97 c = (simp (le-ltb _ _ c.if-b-lt48.false, lt-leb _ _ c.if-b-le57.false, lt-ltb _ _ c.if-b-lt97.true), search rules)
+returns-in_default c = simp (lt-ltb c.args.b 48 (omega arith))
 
-pub returns-then-b-le102 : goal.returns-then-b-le102
+pub returns-in_default-2 : goal.returns-in_default-2
 unfolding hex_value_lem
-returns-then-b-le102 c = (
-  simp (le-ltb _ _ c.if-b-lt48.false, lt-leb _ _ c.if-b-le57.false, le-ltb _ _ c.if-b-lt97.false, le-leb _ _ c.if-b-le102.true) (omega arith),
-  omega arith,
-)
+returns-in_default-2 c = let b = c.args.b in simp (le-ltb b 48 (omega arith), lt-leb b 57 (omega arith), lt-ltb b 97 (omega arith))
 
-pub returns : goal.returns
+pub returns-in_default-3 : goal.returns-in_default-3
 unfolding hex_value_lem
-returns c = (
-  simp (le-ltb _ _ c.if-b-lt48.false, lt-leb _ _ c.if-b-le57.false, le-ltb _ _ c.if-b-lt97.false, lt-leb _ _ c.if-b-le102.false),
-  search rules,
-)
+returns-in_default-3 c = let b = c.args.b in
+    simp (le-ltb b 48 (omega arith), lt-leb b 57 (omega arith), le-ltb b 97 (omega arith), lt-leb b 102 (omega arith))

@@ -12,7 +12,7 @@ word : (w : After-word-x) → w.word-x.result ≡ get_or (order_of w.args.kept.n
 word w = stays-word _ _ w.loop-i.invariant.0 _ (omega (arith, w.loop-i-test.true)) _ w.word-x.ensures.0
 
 pub loop-i-init : goal.loop-i-init
-loop-i-init c = (stays-refl _, naming-start _ _ _ c.octets_in.ensures c.requires.0 c.requires.1)
+loop-i-init c = (stays-refl _, naming-start _ _ _ c.requires.0 c.requires.1)
 
 pub given_id-id-requires : goal.given_id-id-requires
 given_id-id-requires c = naming_asks _ _ _ _ _ _ c.loop-i.invariant.1

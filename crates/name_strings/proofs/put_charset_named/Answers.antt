@@ -29,7 +29,7 @@ byte-requires c =
 pub loop-i-init : goal.loop-i-init
 loop-i-init c = (
   stays-refl _,
-  naming-start _ _ _ c.octets_in.ensures c.requires.0 c.slots_own-own.ensures,
+  naming-start _ _ _ c.requires.0 c.slots_own-own.ensures,
   λ old w room. charset-start _ _ room w,
 )
 

@@ -28,7 +28,7 @@ written l = l.loop-i.invariant.2 _ (meant l) (others_begun _ _ _ _ _ l.begin_str
 pub loop-i-init : goal.loop-i-init
 loop-i-init c = (
   stays-refl _,
-  name-start _ _ _ _ _ (naming-start _ _ _ c.octets_in.ensures c.requires.0 refl) c.begin_strings-begun.ensures.many,
+  name-start _ _ _ _ _ (naming-start _ _ _ c.requires.0 refl) c.begin_strings-begun.ensures.many,
   λ mid m g. g,
 )
 

@@ -4,13 +4,14 @@ use Rattle.index.specs.Begun.{Meant}
 use Rattle.index.specs.ItemOut.{Begins}
 use Rattle.order_window.specs.declared.window.Kept.{Kept}
 use Rattle.order_window.specs.Stays.{order_of, Stays}
+use Rattle.own_strings.specs.declared.slots.Slot.{Slot}
 use Rattle.own_strings.specs.Slots.{all_own}
 use Rattle.name_strings.specs.Names.{strings_of}
 use Rattle.name_strings.specs.Strings.{NameWriting}
 use Rattle.name_strings.proofs.put_strings.Given as goal
 
 -- the own strings
-abbrev pub own : Kept → List ℕ → List (List ℕ)
+abbrev pub own : Kept → List Slot → List (List ℕ)
 own k slots = all_own (strings_of k) slots (order_of k)
 
 abbrev pub invariant-loop-i : goal.invariant-loop-i

@@ -1,8 +1,8 @@
 -- `slots_own` meets its contract: a slot adds a string exactly where its id is the next.
-use Rattle.name_strings.specs.SlotCountLaws.{counting-start, counting_asks, counting-next}
+use Rattle.name_strings.specs.SlotCountLaws.{counting-start, counting_asks, counting-none, counting-next}
 use Rattle.own_strings.specs.Ready.{HasStrings}
 use Rattle.name_strings.proofs.slots_own.Goals as goal
-use Rattle.name_strings.proofs.slots_own.Goals.{Start}
+use Rattle.name_strings.proofs.slots_own.Goals.{Start, in-None, in-Some}
 
 has : (s : Start) → (let x = s.args.slots.now.strings in HasStrings x.bytes.now x.ix)
 has s = record { good = s.args.slots.now.strings.good; small = s.requires }
@@ -16,4 +16,9 @@ count_one-own-requires c =
 
 pub loop-j-preserved : goal.loop-j-preserved
 loop-j-preserved c =
-    counting-next _ _ (has (goal.at.loop-j-preserved c).Start) _ c.args.slots.now.given _ _ c.loop-j.invariant c.loop-j-test.true _ c.count_one-own.ensures
+    let h = has (goal.at.loop-j-preserved c).Start in
+    let g = c.args.slots.now.given in
+    elim c.match-slot.branch [
+      | in-None w ↦ rw w.own-is (counting-none _ _ h _ g _ _ c.loop-j.invariant c.loop-j-test.true w.in-None.is)
+      | in-Some w ↦ rw w.own-is (counting-next _ _ h _ g _ _ c.loop-j.invariant c.loop-j-test.true _ w.in-Some.is _ w.count_one-own.ensures)
+    ]

@@ -27,5 +27,5 @@ glyphs_len-requires c =
 pub returns : goal.returns
 returns c =
     let h = c.requires in
-    places_are _ _ _ _ _ _ _ h.plan c.args.parts.now.name.now _ _ h.strings _ h.codes _ _ _ _ _ _ c.encoding_at-v.ensures c.front_len-front.ensures.0
+    places_are _ _ _ _ _ _ _ h.plan c.args.parts.now.name.now _ _ h.strings _ _ h.codes _ _ _ _ _ _ c.encoding_at-v.ensures c.front_len-front.ensures.0
     c.globals_len.ensures.0 c.encoding_len.ensures.0 c.encoding_at.ensures c.glyphs_len.ensures.0 c.part_sizes-privates.ensures _ refl

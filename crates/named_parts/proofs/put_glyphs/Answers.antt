@@ -23,5 +23,5 @@ pub returns : goal.returns
 returns c =
     let h = c.args.c.now.ready in (
       record { wrote = glyphs-wrote _ _ _ _ _ _ _ h.plan _ h.walked c.args.out.now.bytes.now c.args.out.now.at c.requires.0 c.requires.1 c.put_charstrings.ensures.0.wrote c.put_privates.ensures.wrote; same = c.put_privates.ensures.same ∙ c.put_charstrings.ensures.0.same; size = c.put_privates.ensures.size ∙ c.put_charstrings.ensures.0.size },
-      record { kept = c.put_charstrings.ensures.1; parts = refl; encoding = refl },
+      record { kept = c.put_charstrings.ensures.1; parts = refl; encoding = refl; codes = refl },
     )

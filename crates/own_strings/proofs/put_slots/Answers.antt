@@ -1,20 +1,19 @@
--- `own_strings::put_slots` meets its contract: the first two slots, and then one of each entry.
-use Rattle.std.proofs.Common.{ap, arith, sym, List, ℕ, ◌∙◌}
-use Rattle.octets.specs.Octets.{put}
-use Rattle.octets.specs.PutLaws.{put_all, put_nil}
-use Rattle.dict.specs.Op.{copied_top_strings}
+-- `own_strings::put_slots` meets its contract: slot by slot.
+use Rattle.std.proofs.Common.{ap, arith, refl, List, ℕ, ◌∙◌}
+use Rattle.std.proofs.lemmas.List.{length-set}
 use Rattle.dict.specs.Places.{entries_of}
-use Rattle.dict.specs.Held.{entries}
 use Rattle.own_strings.specs.Slots.{slots_of}
-use Rattle.own_strings.specs.TurnLaws.{slots_length, slots-whole, put-slot}
+use Rattle.own_strings.specs.TurnLaws.{slots-next, slots-all}
 use Rattle.own_strings.proofs.put_slots.Goals as goal
 
-pub loop-k-init : goal.loop-k-init
-loop-k-init c = sym (put_nil _ 2)
+pub loop-j-init : goal.loop-j-init
+loop-j-init c = (c.told-slots, refl)
 
-pub loop-k-preserved : goal.loop-k-preserved
-loop-k-preserved c = put-slot _ _ _ _ _ _ c.loop-k.invariant c.loop-k-test.true c.copied_top_string.ensures c.slot_of.ensures (omega (arith, c.put_first.auto.slots, c.requires))
+pub loop-j-preserved : goal.loop-j-preserved
+loop-j-preserved c = (
+  length-set c.loop-j.slots c.loop-j.j _ ∙ c.loop-j.invariant.0,
+  slots-next c.args.cid _ _ _ (omega (arith, c.loop-j.invariant.0, c.loop-j-test.true)) c.loop-j-test.true c.loop-j.invariant.1 _ c.named_sid.ensures,
+)
 
 pub returns : goal.returns
-returns c = c.loop-k.invariant ∙ put_all _ 2 _ c.loop-k.k (omega (arith, slots_length (entries c.read_top.result.0) copied_top_strings, c.loop-k-test.false)) ∙ slots-whole _ _ _ _ c.put_first.ensures
-    ∙ ap (λ (b : List ℕ). put c.args.slots.now 0 (slots_of c.args.cid (entries_of b))) c.read_top.ensures.0
+returns c = slots-all c.args.cid _ _ _ c.loop-j.invariant.0 c.loop-j-test.false c.loop-j.invariant.1 ∙ ap (λ (b : List ℕ). slots_of c.args.cid (entries_of b)) c.read_top.ensures.0

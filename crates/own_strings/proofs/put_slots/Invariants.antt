@@ -1,9 +1,7 @@
-use Rattle.std.proofs.Common.{take, ◌≡◌}
-use Rattle.octets.specs.Octets.{put}
-use Rattle.dict.specs.Op.{copied_top_strings}
+use Rattle.std.proofs.Common.{length, take, ◌≡◌}
 use Rattle.dict.specs.Held.{entries}
-use Rattle.own_strings.specs.Slots.{entry_slots}
+use Rattle.own_strings.specs.Slots.{sids_of, slots_of}
 use Rattle.own_strings.proofs.put_slots.Given as goal
 
-abbrev pub invariant-loop-k : goal.invariant-loop-k
-invariant-loop-k l = l.slots ≡ put l.initial.slots 2 (take l.k (entry_slots (entries l.top) copied_top_strings))
+abbrev pub invariant-loop-j : goal.invariant-loop-j
+invariant-loop-j l = (length l.slots ≡ 8) × (take l.j (sids_of l.slots) ≡ take l.j (slots_of l.cid (entries l.top)))

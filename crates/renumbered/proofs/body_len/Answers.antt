@@ -20,7 +20,7 @@ pub overflow_add-len : goal.overflow_add-len
 overflow_add-len c = omega (arith, size_small c.args.body.now (size_run c.args.body.now c.loop-code.invariant c.run_at-run.ensures c.if-c-run.true c.run_len-len.ensures refl))
 
 pub loop-code-preserved-then-c-run : goal.loop-code-preserved-then-c-run
-loop-code-preserved-then-c-run c = size_run c.args.body.now c.loop-code.invariant c.run_at-run.ensures c.if-c-run.true c.run_len-len.ensures c.held_at-h.ensures
+loop-code-preserved-then-c-run c = size_run c.args.body.now c.loop-code.invariant c.run_at-run.ensures c.if-c-run.true c.run_len-len.ensures c.number_before-h.ensures
 
 pub sent_len-len-requires : goal.sent_len-len-requires
 sent_len-len-requires c = own-small _ _ (next (goal.at.sent_len-len-requires c).In-Some).writable c.args.body.now.inputs.size

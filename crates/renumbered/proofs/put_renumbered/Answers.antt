@@ -24,7 +24,7 @@ put_run-requires c = (
 
 pub loop-code-preserved-then-c-run : goal.loop-code-preserved-then-c-run
 loop-code-preserved-then-c-run c =
-    (puts_run c.args.body.now c.requires.0 c.requires.1 c.loop-code.invariant.0 c.run_at-run.ensures c.if-c-run.true c.put_run.ensures.wrote c.held_at-h.ensures, c.put_run.ensures.same ∙ c.loop-code.invariant.1, c.put_run.ensures.size ∙ c.loop-code.invariant.2)
+    (puts_run c.args.body.now c.requires.0 c.requires.1 c.loop-code.invariant.0 c.run_at-run.ensures c.if-c-run.true c.put_run.ensures.wrote c.number_before-h.ensures, c.put_run.ensures.same ∙ c.loop-code.invariant.1, c.put_run.ensures.size ∙ c.loop-code.invariant.2)
 
 pub put_sent-requires : goal.put_sent-requires
 put_sent-requires c = (

@@ -8,10 +8,10 @@ use Rattle.top_dict.specs.Top.{top_named}
 use Rattle.top_dict.proofs.put_named_index.Goals as goal
 
 pub put_single_head-requires : goal.put_single_head-requires
-put_single_head-requires c = (subst (λ (n : ℕ). n < 4294967295) (sym c.top_len-n.ensures.0) c.requires.0, split-room _ _ c.requires.1 (single-parts _ (top_named (entries c.args.top.now.dict) c.args.top.now.slots c.args.to.charset c.args.to.encoding c.args.to.charstrings c.args.to.size c.args.to.private) (c.top_len-n.ensures.0 ∙ named-measured (entries c.args.top.now.dict) c.args.top.now.slots c.args.to.charset c.args.to.encoding c.args.to.charstrings c.args.to.size c.args.to.private)))
+put_single_head-requires c = (subst (λ (n : ℕ). n < 4294967295) (sym c.top_len-n.ensures.0) c.requires.0, split-room _ _ c.requires.1 (single-parts _ (top_named (entries c.args.top.now.dict) c.args.top.now.slots.now c.args.to.charset c.args.to.encoding c.args.to.charstrings c.args.to.size c.args.to.private) (c.top_len-n.ensures.0 ∙ named-measured (entries c.args.top.now.dict) c.args.top.now.slots.now c.args.to.charset c.args.to.encoding c.args.to.charstrings c.args.to.size c.args.to.private)))
 
 pub put_top_named-requires : goal.put_top_named-requires
-put_top_named-requires c = writing-left c.requires.1 (writing-turn c.requires.1 (single-parts _ (top_named (entries c.args.top.now.dict) c.args.top.now.slots c.args.to.charset c.args.to.encoding c.args.to.charstrings c.args.to.size c.args.to.private) (c.top_len-n.ensures.0 ∙ named-measured (entries c.args.top.now.dict) c.args.top.now.slots c.args.to.charset c.args.to.encoding c.args.to.charstrings c.args.to.size c.args.to.private)) (writing_start _ _ _) c.put_single_head.ensures.wrote)
+put_top_named-requires c = writing-left c.requires.1 (writing-turn c.requires.1 (single-parts _ (top_named (entries c.args.top.now.dict) c.args.top.now.slots.now c.args.to.charset c.args.to.encoding c.args.to.charstrings c.args.to.size c.args.to.private) (c.top_len-n.ensures.0 ∙ named-measured (entries c.args.top.now.dict) c.args.top.now.slots.now c.args.to.charset c.args.to.encoding c.args.to.charstrings c.args.to.size c.args.to.private)) (writing_start _ _ _) c.put_single_head.ensures.wrote)
 
 pub returns : goal.returns
-returns c = record { wrote = writing-last c.requires.1 (writing-turn c.requires.1 (single-parts _ (top_named (entries c.args.top.now.dict) c.args.top.now.slots c.args.to.charset c.args.to.encoding c.args.to.charstrings c.args.to.size c.args.to.private) (c.top_len-n.ensures.0 ∙ named-measured (entries c.args.top.now.dict) c.args.top.now.slots c.args.to.charset c.args.to.encoding c.args.to.charstrings c.args.to.size c.args.to.private)) (writing_start _ _ _) c.put_single_head.ensures.wrote) c.put_top_named.ensures.wrote; same = c.put_top_named.ensures.same ∙ c.put_single_head.ensures.same; size = c.put_top_named.ensures.size ∙ c.put_single_head.ensures.size }
+returns c = record { wrote = writing-last c.requires.1 (writing-turn c.requires.1 (single-parts _ (top_named (entries c.args.top.now.dict) c.args.top.now.slots.now c.args.to.charset c.args.to.encoding c.args.to.charstrings c.args.to.size c.args.to.private) (c.top_len-n.ensures.0 ∙ named-measured (entries c.args.top.now.dict) c.args.top.now.slots.now c.args.to.charset c.args.to.encoding c.args.to.charstrings c.args.to.size c.args.to.private)) (writing_start _ _ _) c.put_single_head.ensures.wrote) c.put_top_named.ensures.wrote; same = c.put_top_named.ensures.same ∙ c.put_single_head.ensures.same; size = c.put_top_named.ensures.size ∙ c.put_single_head.ensures.size }

@@ -5,11 +5,11 @@ use Rattle.top_dict.specs.Writing.{split-room, writing_start, writing-turn, writ
 use Rattle.top_dict.specs.TopParts.{top-named-parts}
 use Rattle.top_dict.proofs.put_top_named.Goals as goal
 
-pub put_carried-requires : goal.put_carried-requires
-put_carried-requires c = split-room _ _ c.requires (top-named-parts (entries c.args.top.now.dict) c.args.top.now.slots c.args.to.charset c.args.to.encoding c.args.to.charstrings c.args.to.size c.args.to.private)
+pub carried-requires : goal.carried-requires
+carried-requires c = split-room _ _ c.requires (top-named-parts (entries c.args.top.now.dict) c.args.top.now.slots.now c.args.to.charset c.args.to.encoding c.args.to.charstrings c.args.to.size c.args.to.private)
 
 pub put_named_offsets-requires : goal.put_named_offsets-requires
-put_named_offsets-requires c = writing-left c.requires (writing-turn c.requires (top-named-parts (entries c.args.top.now.dict) c.args.top.now.slots c.args.to.charset c.args.to.encoding c.args.to.charstrings c.args.to.size c.args.to.private) (writing_start _ _ _) c.put_carried.ensures.wrote)
+put_named_offsets-requires c = writing-left c.requires (writing-turn c.requires (top-named-parts (entries c.args.top.now.dict) c.args.top.now.slots.now c.args.to.charset c.args.to.encoding c.args.to.charstrings c.args.to.size c.args.to.private) (writing_start _ _ _) c.carried.ensures.wrote)
 
 pub returns : goal.returns
-returns c = record { wrote = writing-last c.requires (writing-turn c.requires (top-named-parts (entries c.args.top.now.dict) c.args.top.now.slots c.args.to.charset c.args.to.encoding c.args.to.charstrings c.args.to.size c.args.to.private) (writing_start _ _ _) c.put_carried.ensures.wrote) c.put_named_offsets.ensures.wrote; same = c.put_named_offsets.ensures.same ∙ c.put_carried.ensures.same; size = c.put_named_offsets.ensures.size ∙ c.put_carried.ensures.size }
+returns c = record { wrote = writing-last c.requires (writing-turn c.requires (top-named-parts (entries c.args.top.now.dict) c.args.top.now.slots.now c.args.to.charset c.args.to.encoding c.args.to.charstrings c.args.to.size c.args.to.private) (writing_start _ _ _) c.carried.ensures.wrote) c.put_named_offsets.ensures.wrote; same = c.put_named_offsets.ensures.same ∙ c.carried.ensures.same; size = c.put_named_offsets.ensures.size ∙ c.carried.ensures.size }

@@ -1,15 +1,13 @@
--- `turns::target_at` meets its contract: the cases of the number that is read.
-use Rattle.turns.specs.TargetLaws.{last-read, last-cut, last-operator, no_last, last-names}
+-- `turns::target_at` meets its contract: step by step as `target_of`.
+use Rattle.std.proofs.Common.{sym, ◌∙◌}
+use Rattle.turns.specs.TargetLaws.{no_number, no_name, named}
 use Rattle.turns.proofs.target_at.Goals as goal
 
-pub returns-in-Num : goal.returns-in-Num
-returns-in-Num c = last-names c.args.code.now c.args.prev c.args.at _ _ (last-read _ _ _ c.if-prev-at.true _ c.read_number.ensures _ _ c.in-Num.is) _ c.target_of.ensures
+pub returns-in_err-number_before : goal.returns-in_err-number_before
+returns-in_err-number_before c = c.from_residual.ensures ∙ no_number _ _ (sym c.number_before.ensures ∙ c.in_err-number_before.was)
 
-pub returns-in-Cut : goal.returns-in-Cut
-returns-in-Cut c = last-cut _ _ _ c.if-prev-at.true _ _ c.read_number.ensures c.in-Cut.is
-
-pub returns-in-Operator : goal.returns-in-Operator
-returns-in-Operator c = last-operator _ _ _ c.if-prev-at.true _ _ c.read_number.ensures c.in-Operator.is
+pub returns-in_err-number : goal.returns-in_err-number
+returns-in_err-number c = c.from_residual-in_err-number.ensures ∙ no_name _ _ _ (sym c.number_before.ensures ∙ c.in_ok-number_before.was) (sym c.number_named.ensures ∙ c.in_err-number.was)
 
 pub returns : goal.returns
-returns c = no_last _ _ _ _ c.if-prev-at.false
+returns c = c.then_some.ensures ∙ named _ _ _ (sym c.number_before.ensures ∙ c.in_ok-number_before.was) _ (sym c.number_named.ensures ∙ c.in_ok-number.was)

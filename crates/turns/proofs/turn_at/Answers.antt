@@ -3,13 +3,13 @@ use Rattle.turns.specs.TurnLaws.{turn-cut, turn-operator, turn-number, turn-full
 use Rattle.turns.proofs.turn_at.Goals as goal
 
 pub returns-then-x-lt48 : goal.returns-then-x-lt48
-returns-then-x-lt48 c = turn-number _ _ _ _ _ _ _ _ c.number_end.ensures _ c.in-At.is c.if-x-lt48.true _ c.goes_on.ensures
+returns-then-x-lt48 c = turn-number _ _ _ _ _ _ _ _ c.read_number.ensures _ _ c.in-Num.is c.if-x-lt48.true _ c.goes_on.ensures
 
 pub returns-in-Cut : goal.returns-in-Cut
-returns-in-Cut c = turn-cut _ _ _ _ _ _ _ _ c.number_end.ensures c.in-Cut.is
+returns-in-Cut c = turn-cut _ _ _ _ _ _ _ _ c.read_number.ensures c.in-Cut.is
 
 pub returns-in-Operator : goal.returns-in-Operator
-returns-in-Operator c = turn-operator _ _ _ _ _ _ _ _ c.number_end.ensures c.in-Operator.is _ c.operator_turn.ensures
+returns-in-Operator c = turn-operator _ _ _ _ _ _ _ _ c.read_number.ensures c.in-Operator.is _ c.operator_turn.ensures
 
 pub returns-else-x-lt48 : goal.returns-else-x-lt48
-returns-else-x-lt48 c = turn-full _ _ _ _ _ _ _ _ c.number_end.ensures _ c.in-At.is c.if-x-lt48.false
+returns-else-x-lt48 c = turn-full _ _ _ _ _ _ _ _ c.read_number.ensures _ _ c.in-Num.is c.if-x-lt48.false

@@ -10,7 +10,6 @@ use Rattle.bodies.specs.WritingLaws.{head-fits, places-meant}
 use Rattle.bodies.specs.WritingOut.{writes_start, writes-skip, writes-fit, writes_end, writes-on, writes-whole}
 use Rattle.bodies.specs.Written.{kept_of, subr_of, subrs_of}
 use Rattle.bodies.specs.WrittenLaws.{written-each, written-count, new-written, measured_room}
-use Rattle.mask_rows.specs.FillLaws.{covers-none}
 use Rattle.bodies.proofs.subrs.put_windows.Goals as goal
 use Rattle.bodies.proofs.subrs.put_windows.Goals.{After-kept_count-count, After-put_head, then-is_kept, else-is_kept}
 
@@ -43,7 +42,7 @@ pub overflow_add-out : goal.overflow_add-out
 overflow_add-out c = omega (arith, meant (goal.at.overflow_add-out c).After-put_head)
 
 pub loop-k-init : goal.loop-k-init
-loop-k-init c = let a = c.args.m.now.all in (writes_start _ _ (many_of (subrs_of a)) (kept_of a) a.from.ix.count refl, covers-none _ _ _ _)
+loop-k-init c = let a = c.args.m.now.all in (writes_start _ _ (many_of (subrs_of a)) (kept_of a) a.from.ix.count refl, tt)
 
 pub put_windowed-requires : goal.put_windowed-requires
 put_windowed-requires c =

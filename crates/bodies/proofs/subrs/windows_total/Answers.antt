@@ -4,11 +4,10 @@ use Rattle.bodies.specs.Sizes.{Bounded}
 use Rattle.bodies.specs.SizesLaws.{adding_start, adding_end, adding_failed, adding_on, adding_small}
 use Rattle.bodies.specs.Written.{kept_of, subr_of}
 use Rattle.bodies.specs.WrittenLaws.{written-measured}
-use Rattle.mask_rows.specs.FillLaws.{covers-none}
 use Rattle.bodies.proofs.subrs.windows_total.Goals as goal
 
 pub loop-k-init : goal.loop-k-init
-loop-k-init c = let a = c.args.all.now in (adding_start (subr_of a) (kept_of a) a.from.ix.count, covers-none _ _ _ _)
+loop-k-init c = let a = c.args.all.now in (adding_start (subr_of a) (kept_of a) a.from.ix.count, tt)
 
 pub loop-k-preserved : goal.loop-k-preserved
 loop-k-preserved c =

@@ -1,5 +1,5 @@
 -- `tally::count_line` meets its contract: the count at the line's place is one more.
-use Rattle.std.proofs.Common.{arith, false, refl, true, ◌*◌, ◌+◌}
+use Rattle.std.proofs.Common.{arith, false, refl, true}
 use Rattle.cases.specs.TallyLaws.{counted-at}
 use Rattle.cases.proofs.tally.count_line.Goals as goal
 

@@ -1,10 +1,8 @@
 -- The invariant: the entries done stand in the answer, and what is left follows them.
-use Rattle.std.proofs.Common.{length, ◌-◌}
+use Rattle.dict.specs.Ahead.{entries_left}
+use Rattle.dict.proofs.EntriesLaws.{Left}
 use Rattle.format_cases.specs.DictsLaws.{Listing}
 use Rattle.format_cases.proofs.dicts.of_dict.Given as goal
 
-abbrev pub invariant-loop-at : goal.invariant-loop-at
-invariant-loop-at l = Listing l.d l.at l.answer
-
-abbrev pub decreases-loop-at : goal.decreases-loop-at
-decreases-loop-at l = length l.d - l.at
+abbrev pub invariant-loop-entry : goal.invariant-loop-entry
+invariant-loop-entry l = Left l.d (entries_left l.entry-iterator) (λ at. Listing l.d at l.answer)

@@ -3,6 +3,9 @@ use Rattle.std.proofs.Common.{refl, ◌∙◌}
 use Rattle.glyph_bodies.specs.GlyphsLaws.{charstring_inputs}
 use Rattle.glyph_bodies.proofs.glyphs.body_of.Goals as goal
 
+pub rows_known-rows-requires : goal.rows_known-rows-requires
+rows_known-rows-requires c = c.args.one.now.asked.order
+
 pub new-requires : goal.new-requires
 new-requires c = charstring_inputs c.args.one.now.asked _ refl _ c.item-code.ensures.0
 
@@ -14,7 +17,7 @@ returns c =
       words_are = r.words_are;
       locals_are = r.locals_are;
       globals_are = r.globals_are;
-      rows_are = r.rows_are;
-      rises_so = r.rises_so;
+      rows_are = r.rows_are ∙ c.rows_known-rows.ensures.0;
+      rises_so = r.rises_so ∙ c.rows_known-rows.ensures.1;
       site_is = r.site_is;
     }

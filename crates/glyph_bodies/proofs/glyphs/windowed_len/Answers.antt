@@ -1,23 +1,19 @@
--- `glyph_bodies::glyphs::windowed_len` meets its contract: a part of the record that has the glyph's rows says of it what the whole record says; one that has none
--- has what it says whatever becomes of its bytes.
-use Rattle.bodies.specs.WindowsLaws.{covers-past}
+-- `glyph_bodies::glyphs::windowed_len` meets its contract: a part of the record that has the glyph's rows says of it what the whole record says.
+use Rattle.mask_rows.specs.FillLaws.{covers_some, covers_none, has_some}
 use Rattle.glyph_bodies.specs.PartLaws.{part-asked, part_len}
 use Rattle.glyph_bodies.proofs.glyphs.windowed_len.Goals as goal
 
-pub returns-then-glyph-masks : goal.returns-then-glyph-masks
-returns-then-glyph-masks c = (c.charstring_len.ensures.0, c.charstring_len.ensures.1, c.requires.0)
-
 pub rows-requires : goal.rows-requires
-rows-requires c = c.requires.0.fits
+rows-requires c = (covers_some c.in-Some.is c.requires.0).fits
 
 pub invariant_of-part : goal.invariant_of-part
-invariant_of-part c = record { asked = part-asked _ _ _ c.requires.0 c.args.one.now.asked _ c.rows.ensures c.in_order.result c.in_order.ensures }
-
-pub returns-then-glyph-masks-2 : goal.returns-then-glyph-masks-2
-returns-then-glyph-masks-2 c =
-    let r = part_len _ _ _ c.requires.0 c.args.one.now.asked _ c.rows.ensures c.in_order.result c.in_order.ensures c.if-glyph-masks.false c.if-glyph-masks-2.true _ c.charstring_len-then-glyph-masks-2.ensures in
-    (r.0, r.1, c.requires.0)
+invariant_of-part c = record { asked = part-asked _ _ _ (covers_some c.in-Some.is c.requires.0) c.args.one.now.asked _ c.rows.ensures c.in_order.result c.in_order.ensures }
 
 pub returns : goal.returns
 returns c =
-    (c.long_len.ensures.0, c.long_len.ensures.1, covers-past c.requires.1 c.if-glyph-masks-2.false _)
+    let has = has_some c.in-Some.is c.requires.1 in
+    let r = part_len _ _ _ (covers_some c.in-Some.is c.requires.0) c.args.one.now.asked _ c.rows.ensures c.in_order.result c.in_order.ensures has.0 has.1 _ c.charstring_len.ensures in
+    (r.0, r.1, c.requires.0)
+
+pub returns-in_default : goal.returns-in_default
+returns-in_default c = (c.long_len.ensures.0, c.long_len.ensures.1, covers_none c.in_default.is _ _ _ _)

@@ -9,9 +9,9 @@ places_named-at-requires c = ready_planned c.args.c.now
 pub returns-then-end-gt-LONGEST : goal.returns-then-end-gt-LONGEST
 returns-then-end-gt-LONGEST c =
     let h = c.args.c.now.ready in
-    named_long _ _ _ _ _ _ _ h.plan c.args.c.now.parts.name.now _ _ h.strings _ h.codes _ c.places_named-at.ensures c.if-end-gt-LONGEST.true
+    named_long _ _ _ _ _ _ _ h.plan c.args.c.now.parts.name.now _ _ h.strings _ _ h.codes _ c.places_named-at.ensures c.if-end-gt-LONGEST.true
 
 pub returns : goal.returns
 returns c =
     let h = c.args.c.now.ready in
-    named-fits _ _ _ _ _ _ _ h.plan c.args.c.now.parts.name.now _ _ h.strings _ h.codes _ c.places_named-at.ensures c.if-end-gt-LONGEST.false
+    named-fits _ _ _ _ _ _ _ h.plan c.args.c.now.parts.name.now _ _ h.strings _ _ h.codes _ c.places_named-at.ensures c.if-end-gt-LONGEST.false

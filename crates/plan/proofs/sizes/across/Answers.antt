@@ -8,9 +8,6 @@ use Rattle.plan.proofs.sizes.across.Goals.{then-used-fd-ne0, else-used-fd-ne0}
 pub loop-fd-init : goal.loop-fd-init
 loop-fd-init c = counting-start _
 
-pub overflow_add-count : goal.overflow_add-count
-overflow_add-count c = omega (arith, c.loop-fd.invariant.few, c.loop-fd-test.true)
-
 pub loop-fd-preserved : goal.loop-fd-preserved
 loop-fd-preserved c =
     elim c.if-used-fd-ne0.branch [

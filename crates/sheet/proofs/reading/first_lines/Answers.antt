@@ -1,30 +1,26 @@
 -- `reading::first_lines` meets its contract: one line after the other, or too few.
-use Rattle.std.proofs.Common.{arith}
+use Rattle.std.proofs.Common.{ap, arith, List, length, sym, ℕ, ◌∙◌, ◌∷◌}
 use Rattle.sheet.specs.Reading.{HeadIs}
-use Rattle.sheet.specs.ReadingLaws.{short_none, short-one, short-two, short-three, four-lines}
+use Rattle.sheet.specs.ReadingLaws.{head-none}
 use Rattle.sheet.proofs.reading.first_lines.Goals as goal
 
-pub returns-then-n-eq0 : goal.returns-then-n-eq0
-unfolding HeadIs
-returns-then-n-eq0 c = short_none _ c.if-n-eq0.true
+pub returns-in_err-font : goal.returns-in_err-font
+returns-in_err-font c = head-none _ _ c.from_residual.ensures (omega (arith, ap length c.of-lines.ensures, ap length c.in_err-font.ensures.steps.0))
 
-pub returns-then-n-a : goal.returns-then-n-a
-unfolding HeadIs
-returns-then-n-a c = short-one _ (omega (arith, c.if-n-eq0.false)) _ c.line_end-a.ensures.0 c.if-n-a.true
+pub returns-in_err-name : goal.returns-in_err-name
+returns-in_err-name c =
+    head-none _ _ c.from_residual-in_err-name.ensures (omega (arith, ap length c.of-lines.ensures, ap length c.in_ok-font.ensures.steps, ap length c.in_err-name.ensures.steps.0))
 
-pub returns-then-n-b : goal.returns-then-n-b
-unfolding HeadIs
-returns-then-n-b c = short-two _ (omega (arith, c.if-n-eq0.false)) _ c.line_end-a.ensures.0 c.if-n-a.false _ c.line_end-b.ensures.0 c.if-n-b.true
+pub returns-in_err-keep : goal.returns-in_err-keep
+returns-in_err-keep c =
+    head-none _ _ c.from_residual-in_err-keep.ensures
+    (omega (arith, ap length c.of-lines.ensures, ap length c.in_ok-font.ensures.steps, ap length c.in_ok-name.ensures.steps, ap length c.in_err-keep.ensures.steps.0))
 
-pub returns-then-n-c : goal.returns-then-n-c
-unfolding HeadIs
-returns-then-n-c c = short-three _ (omega (arith, c.if-n-eq0.false)) _ c.line_end-a.ensures.0 c.if-n-a.false _ c.line_end-b.ensures.0 c.if-n-b.false _ c.line_end-c.ensures.0
-    c.if-n-c.true
+pub returns-in_err-flag : goal.returns-in_err-flag
+returns-in_err-flag c =
+    head-none _ _ c.from_residual-in_err-flag.ensures
+    (omega (arith, ap length c.of-lines.ensures, ap length c.in_ok-font.ensures.steps, ap length c.in_ok-name.ensures.steps, ap length c.in_ok-keep.ensures.steps, ap length c.in_err-flag.ensures.steps.0))
 
 pub returns : goal.returns
 unfolding HeadIs
-returns c = let b = c.line_end-b.ensures in
-    let k = c.line_end-c.ensures in
-    let d = c.line_end-d.ensures in
-    four-lines _ (omega (arith, c.if-n-eq0.false)) _ c.line_end-a.ensures.0 c.if-n-a.false _ b.0 c.if-n-b.false _ k.0 _ c.if-n-c.false d.0
-    (omega (arith, b.1)) (omega (arith, k.1)) (omega (arith, d.1)) d.2
+returns c = sym c.of-lines.ensures ∙ rw (c.in_ok-font.ensures.steps, c.in_ok-name.ensures.steps, c.in_ok-keep.ensures.steps, c.in_ok-flag.ensures.steps)

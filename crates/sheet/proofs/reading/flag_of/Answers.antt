@@ -1,6 +1,6 @@
 -- `reading::flag_of` meets its contract: the byte of two digits.
 use Rattle.std.proofs.Common.{arith}
-use Rattle.sheet.specs.PartsLaws.{flag-two, flag-pair, flag-value}
+use Rattle.sheet.specs.PartsLaws.{flag-two, flag-value}
 use Rattle.sheet.proofs.reading.flag_of.Goals as goal
 
 pub bounds-line-0 : goal.bounds-line-0
@@ -9,8 +9,5 @@ bounds-line-0 c = omega (arith, flag-two c.args.line.now c.requires)
 pub bounds-line-1 : goal.bounds-line-1
 bounds-line-1 c = omega (arith, flag-two c.args.line.now c.requires)
 
-pub overflow_cast-result : goal.overflow_cast-result
-overflow_cast-result c = let p = flag-pair c.args.line.now c.requires in omega (arith, c.hex_value-high.ensures.0, c.hex_value-low.ensures.0, p.high, p.low)
-
 pub returns : goal.returns
-returns c = flag-value c.args.line.now c.requires _ _ c.hex_value-high.ensures.0 c.hex_value-low.ensures.0
+returns c = flag-value c.args.line.now c.requires _ c.octet_of.ensures

@@ -3,8 +3,8 @@ use Rattle.std.proofs.Common.{◌∙◌}
 use Rattle.sheet.specs.ReadingLaws.{of-same, of_other}
 use Rattle.sheet.proofs.reading.hex_of.Goals as goal
 
-pub returns-then-k-n : goal.returns-then-k-n
-returns-then-k-n c = c.is_hex.ensures ∙ of-same _ _ c.if-k-n.true
+pub returns-then-line-n : goal.returns-then-line-n
+returns-then-line-n c = c.is_hex.ensures ∙ of-same _ _ c.if-line-n.true
 
-pub returns : goal.returns
-returns c = of_other _ _ c.if-k-n.false
+pub returns-else-line-n : goal.returns-else-line-n
+returns-else-line-n c = of_other _ _ c.if-line-n.false

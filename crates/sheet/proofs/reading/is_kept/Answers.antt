@@ -6,5 +6,5 @@ use Rattle.sheet.proofs.reading.is_kept.Goals as goal
 pub returns-then-line-eq0 : goal.returns-then-line-eq0
 returns-then-line-eq0 c = c.hex_up_to.ensures ∙ kept_fours _ c.if-line-eq0.true
 
-pub returns : goal.returns
-returns c = kept_not _ c.if-line-eq0.false
+pub returns-else-line-eq0 : goal.returns-else-line-eq0
+returns-else-line-eq0 c = kept_not _ c.if-line-eq0.false

@@ -1,15 +1,12 @@
 -- `reading::put_parts` meets its contract: each part is written to its buffer.
-use Rattle.std.proofs.Common.{arith, refl, subst, List, ℕ}
-use Rattle.cases.specs.Lines.{lines_of}
-use Rattle.octets.specs.Octets.{Wrote}
-use Rattle.sheet.specs.Sheet.{filled, row_bytes}
+use Rattle.std.proofs.Common.{arith, refl}
 use Rattle.sheet.specs.PartsLaws.{Fine, fine, up_to_room, stands}
 use Rattle.sheet.proofs.reading.put_parts.Goals as goal
 use Rattle.sheet.proofs.reading.put_parts.Goals.{Start}
 
 -- the lines are those of a sheet
-parts : (s : Start) → (let e = s.args.ends in Fine s.args.text.now e.font_end e.name_end e.keep_end e.flag_end)
-parts s = fine _ _ _ _ _ s.requires.1
+parts : (s : Start) → Fine s.args.head.now
+parts s = fine _ s.requires
 
 pub put_spelt-m-requires : goal.put_spelt-m-requires
 put_spelt-m-requires c =
@@ -28,12 +25,10 @@ pub flag_of-flag-requires : goal.flag_of-flag-requires
 flag_of-flag-requires c = (parts (goal.at.flag_of-flag-requires c).Start).flag
 
 pub put_rows-l-requires : goal.put_rows-l-requires
-put_rows-l-requires c =
-    (rw c.rest.ensures (parts (goal.at.put_rows-l-requires c).Start).rows, c.args.to.now.rec_room)
+put_rows-l-requires c = ((parts (goal.at.put_rows-l-requires c).Start).rows, c.args.to.now.rec_room)
 
 pub returns : goal.returns
 returns c = (
-  stands c.args.text.now _ _ _ _ c.put_spelt-m.ensures c.put_spelt-n.ensures c.put_kept-k.ensures c.flag_of-flag.ensures
-      (subst (λ (t : List ℕ). Wrote c.args.to.now.rec.now 0 (row_bytes (filled (lines_of t))) c.put_rows-l.new.rec c.put_rows-l.result) c.rest.ensures c.put_rows-l.ensures),
+  stands c.args.head.now c.put_spelt-m.ensures c.put_spelt-n.ensures c.put_kept-k.ensures c.flag_of-flag.ensures c.put_rows-l.ensures,
   record { font = refl; name = refl; keep = refl; rec = refl },
 )
