@@ -92,3 +92,5 @@ pub record RecodesAt (old : Out) (body : Option (List Tok)) (new : Out) (r : Res
   pub recodes : Recodes old.bytes.now old.at body new.bytes.now (placed new.at r)
   pub same : new.bytes.ghost_name ≡ old.bytes.ghost_name
   pub size : length new.bytes.now ≡ length old.bytes.now
+  -- where it fails the output is as it was, its place too
+  pub stays : (why : RecodeError) → r ≡ Err why → new ≡ old
