@@ -15,7 +15,7 @@ use Rattle.cff.specs.Font.{Program}
 use Rattle.subset.specs.Kept.{is_in, those, fds_of, used_fds, new_fd}
 use Rattle.subset.specs.Subset.{matrix_of, new_fds}
 use Rattle.faithful.specs.Laid.{GoodProgram, matrices_of}
-use Rattle.subset.specs.KeptListLaws.{in_none, in_head, in_more, in_cases, in_at, in_some, those-has, those_in, those-few}
+use Rattle.subset.specs.KeptListLaws.{in_none, in_head, in_more, in_cases, in_at, in_some, those-has, those_in, those-few, those-high}
 
 -- ---- FDs of glyphs
 
@@ -95,6 +95,12 @@ matrices_at p [] k h = absurd (not-suc-le-zero h)
 matrices_at p (f ∷ fs) zero h = refl
 matrices_at p (f ∷ fs) (suc k) h = matrices_at p fs k (le_of_suc-le-suc h)
 
+-- the new number of an FD in use is not above the old one
+pub new-fd-low : (p : Program) (kept : List ℕ) (f : ℕ) → is_in f (used_fds p kept) ≡ true → new_fd (used_fds p kept) f ≤ f
+new-fd-low p kept f h =
+    let r = new-fd-at (used_fds p kept) f h in
+    omega (arith, those-high (uses p kept) (length p.privates) 0 (new_fd (used_fds p kept) f) r.0)
+
 -- the i-th glyph that is written has the new number of its FD
 pub new_fds_at : (p : Program) (used order : List ℕ) (i : ℕ) → i < length order → get_or (new_fds p used order) i 0 ≡ new_fd used (get_or p.fds (get_or order i 0) 0)
 unfolding new_fds
@@ -113,3 +119,12 @@ module _ (p : Program) (kept : List ℕ) (good : GoodProgram p) where
       let r = new-fd-at used (get_or p.fds g 0) (used-has p kept g good (a 0 (omega arith)) (b 0 (omega arith))) in
       simp (lt-ltb (new_fd used (get_or p.fds g 0)) (length used) r.0)
       (new_fds_there gs (λ i h. a (suc i) (omega arith)) (λ i h. b (suc i) (omega arith)))
+
+  -- they are bytes
+  pub new_fds_fit : (order : List ℕ) → ((i : ℕ) → i < length order → is_in (get_or order i 0) kept ≡ true)
+      → ((i : ℕ) → i < length order → get_or order i 0 < length p.charstrings) → Octets (new_fds p (used_fds p kept) order)
+  unfolding new_fds
+  new_fds_fit [] a b i = omega arith
+  new_fds_fit (g ∷ gs) a b zero =
+      omega (arith, good.fds g, new-fd-low p kept (get_or p.fds g 0) (used-has p kept g good (a 0 (omega arith)) (b 0 (omega arith))))
+  new_fds_fit (g ∷ gs) a b (suc i) = new_fds_fit gs (λ i h. a (suc i) (omega arith)) (λ i h. b (suc i) (omega arith)) i
