@@ -1,16 +1,20 @@
 -- Laws of the preparing: the own strings that the code counts are the subset's.
 use Rattle.std.specs.Prelude.{ℕ, ◌≤◌, ◌≡◌, true, false, List, [], length, Option}
-use Rattle.std.proofs.Common.{ap, ◌∙◌, arith}
+use Rattle.std.proofs.Common.{sym, ap, ◌∙◌, arith, take_all}
 use Rattle.index.specs.Index.{items_of}
 use Rattle.index.specs.Write.{total}
 use Rattle.index.specs.declared.Index.{Index}
 use Rattle.cff.specs.Font.{Program}
+use Rattle.cff.specs.Reads.{program_of}
 use Rattle.cff.specs.declared.font.Font.{Font}
 use Rattle.cff.specs.declared.loaded.Loaded.{Loaded}
 use Rattle.cff.specs.Loaded.{program}
 use Rattle.subset.specs.Texts.{own_strings_lem}
 use Rattle.subset.specs.Subset.{own_by_name, own_by_cid}
+use Rattle.order.specs.Walks.{order_in}
+use Rattle.order_window.specs.declared.Order.{Order}
 use Rattle.order_window.specs.declared.window.Kept.{Kept}
+use Rattle.order_window.specs.Window.{glyphs_of, Gathered}
 use Rattle.order_window.specs.Stays.{order_of, kept_glyphs}
 use Rattle.own_strings.specs.declared.Own.{Own}
 use Rattle.own_strings.specs.declared.slots.Slot.{Slot}
@@ -19,7 +23,8 @@ use Rattle.own_strings.specs.Ready.{HasStrings}
 use Rattle.own_strings.specs.SlotTexts.{cid_texts}
 use Rattle.own_strings.specs.TurnLaws.{text-short, sids-length}
 use Rattle.own_strings.specs.StageLaws.{own-bound}
-use Rattle.name_strings.specs.Names.{strings_of}
+use Rattle.name_strings.specs.Names.{NamesApart, strings_of, Naming}
+use Rattle.name_strings.specs.NamingLaws.{naming-bound}
 use Rattle.name_strings.specs.NamesLaws.{order-own}
 use Rattle.front.specs.Front.{SmallFont, kept_program, SlotsReady, Measured}
 
@@ -52,9 +57,27 @@ cid_measured font small slots g own e =
 
 -- ---- of a name-keyed subset
 
-pub named-measured : (k : Kept) (slots : List Slot) → SlotsReady (kept_program k) false slots → (own : Own) → own ≡ own_of (all_own (strings_of k) slots (order_of k))
+pub named-measured : (b : List ℕ) (o : Order) (ws window : List ℕ) (slots : List Slot) → SmallFont b o.f → SlotsReady (program_of b o.f) false slots
+    → Gathered b ws window o → NamesApart b o.f ws → (own : Own) → own ≡ own_of (all_own (items_of b o.f.strings) slots (order_in b o.f ws))
+    → Measured (own_by_name (program_of b o.f) (glyphs_of b o.f ws)) own
+named-measured b o ws window slots s g gathered apart own e =
+    let all = order_in b o.f ws in
+    let n : Naming b o.f ws slots own (length all)
+    = record {
+      has = has-strings b o.f s;
+      given = g.given;
+      apart = apart;
+      few = omega (arith, gathered.many, gathered.few);
+      within = omega arith;
+      counts = e ∙ ap (λ (l : List ℕ). own_of (all_own (items_of b o.f.strings) slots l)) (sym (take_all (length all) all (omega arith)));
+    } in
+    let m = naming-bound b o.f ws slots own (length all) n in
+    record { is = e ∙ ap own_of (order-own b o.f ws s.good.glyphs.held.few slots g.front); few = m.0; short = m.1 }
+
+-- the same of kept glyphs, their names being counted within these bounds
+pub counted-measured : (k : Kept) (slots : List Slot) → SlotsReady (kept_program k) false slots → (own : Own) → own ≡ own_of (all_own (strings_of k) slots (order_of k))
     → own.count ≤ 65544 → own.total ≤ 4398583382016 → Measured (own_by_name (kept_program k) (kept_glyphs k)) own
-named-measured k slots g own e few short =
+counted-measured k slots g own e few short =
     record {
       is = e ∙ ap own_of (order-own k.font.now k.o.f k.words.now k.gathered.good.glyphs.held.few slots g.front);
       few = few;
