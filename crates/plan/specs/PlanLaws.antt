@@ -1,6 +1,6 @@
 -- Laws of the plan: the way by what was measured; where nothing is renumbered, no part fails.
-use Rattle.std.specs.Prelude.{ℕ, ◌≡◌, refl, Bool, true, false, List, [], ◌∷◌, Option, None, Some, unwrap_or}
-use Rattle.std.proofs.Common.{sym, ap, ◌∙◌, subst}
+use Rattle.std.specs.Prelude.{ℕ, ◌≡◌, refl, Bool, true, false, eqb, List, [], ◌∷◌, Option, None, Some, unwrap_or}
+use Rattle.std.proofs.Common.{sym, ap, ◌∙◌, subst, eq-eqb, ne_eqb}
 use Rattle.octets.specs.Pick.{pick}
 use Rattle.unfold.specs.Unfold.{Row}
 use Rattle.prune.specs.StepLaws.{zero_one}
@@ -28,15 +28,15 @@ abbrev planned : Way → ℕ → ℕ → Plan
 planned w g c = record { way = w; globals_total = g; glyphs_total = c }
 
 -- the way that is tried first, by the tests of the code
-module _ (traced all : Bool) where
-  pub first-copied : traced ≡ false → Copied ≡ first_way traced all
-  first-copied e = sym (ap (λ (t : Bool). pick t (pick all Renumbered Stubbed) Copied) e)
+module _ (traced : ℕ) (all : Bool) where
+  pub first-copied : traced ≡ 0 → Copied ≡ first_way traced all
+  first-copied e = sym (ap (λ (t : Bool). pick t Copied (pick all Renumbered Stubbed)) (eq-eqb traced 0 e))
 
-  pub first-renumbered : traced ≡ true → all ≡ true → Renumbered ≡ first_way traced all
-  first-renumbered e a = sym (ap (λ (t : Bool). pick t (pick all Renumbered Stubbed) Copied) e ∙ ap (λ (t : Bool). pick t Renumbered Stubbed) a)
+  pub first-renumbered : (traced ≡ 0 → ⊥) → all ≡ true → Renumbered ≡ first_way traced all
+  first-renumbered n a = sym (ap (λ (t : Bool). pick t Copied (pick all Renumbered Stubbed)) (ne_eqb traced 0 n) ∙ ap (λ (t : Bool). pick t Renumbered Stubbed) a)
 
-  pub first-stubbed : traced ≡ true → all ≡ false → Stubbed ≡ first_way traced all
-  first-stubbed e a = sym (ap (λ (t : Bool). pick t (pick all Renumbered Stubbed) Copied) e ∙ ap (λ (t : Bool). pick t Renumbered Stubbed) a)
+  pub first-stubbed : (traced ≡ 0 → ⊥) → all ≡ false → Stubbed ≡ first_way traced all
+  first-stubbed n a = sym (ap (λ (t : Bool). pick t Copied (pick all Renumbered Stubbed)) (ne_eqb traced 0 n) ∙ ap (λ (t : Bool). pick t Renumbered Stubbed) a)
 
 module _ (p : Program) (rows : List Row) (ws used : List ℕ) (table : List Ranks) (globals : Ranks) (order : List ℕ) where
   abbrev Sized : Way → List ℕ → Option Totals → Type 0
@@ -66,14 +66,14 @@ module _ (p : Program) (rows : List Row) (ws used : List ℕ) (table : List Rank
   made way = all_made way p rows ws used table globals order
 
   -- the way that is tried first, or stubbed where a part fails by it
-  first_or_stubbed : (t u : Bool) → pick (made (pick t (pick u Renumbered Stubbed) Copied)) (pick t (pick u Renumbered Stubbed) Copied) Stubbed ≡ pick t (pick u (pick (made Renumbered) Renumbered Stubbed) Stubbed) Copied
-  first_or_stubbed false u = ap (λ (b : Bool). pick b Copied Stubbed) copies-made
-  first_or_stubbed true true = refl
-  first_or_stubbed true false = ap (λ (b : Bool). pick b Stubbed Stubbed) stubs_made
+  first_or_stubbed : (t u : Bool) → pick (made (pick t Copied (pick u Renumbered Stubbed))) (pick t Copied (pick u Renumbered Stubbed)) Stubbed ≡ pick t Copied (pick u (pick (made Renumbered) Renumbered Stubbed) Stubbed)
+  first_or_stubbed true u = ap (λ (b : Bool). pick b Copied Stubbed) copies-made
+  first_or_stubbed false true = refl
+  first_or_stubbed false false = ap (λ (b : Bool). pick b Stubbed Stubbed) stubs_made
 
   -- the way that is found by the one that is tried first
-  pub way-found : (traced all : Bool) (way : Way) → way ≡ first_way traced all → pick (made way) way Stubbed ≡ way_by traced all (made Renumbered)
-  way-found traced all way first = ap (λ (w : Way). pick (made w) w Stubbed) first ∙ first_or_stubbed traced all
+  pub way-found : (traced : ℕ) (all : Bool) (way : Way) → way ≡ first_way traced all → pick (made way) way Stubbed ≡ way_by traced all (made Renumbered)
+  way-found traced all way first = ap (λ (w : Way). pick (made w) w Stubbed) first ∙ first_or_stubbed (eqb traced 0) all
 
   -- what the code returns
   module _ (way : Way) where

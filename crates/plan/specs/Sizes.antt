@@ -1,5 +1,5 @@
 -- The sizes of all bodies by the way (document 01, 'Corners in write.rs'), over what the work words and the tables hold.
-use Rattle.std.specs.Prelude.{ℕ, ◌≤◌, ◌<◌, ◌≡◌, Bool, true, false, List, [], ◌∷◌, length, get_or, Option, Some}
+use Rattle.std.specs.Prelude.{ℕ, ◌≤◌, ◌<◌, ◌≡◌, Bool, true, false, eqb, List, [], ◌∷◌, length, get_or, Option, Some}
 use Rattle.octets.specs.Pick.{pick}
 use Rattle.index.specs.Write.{total}
 use Rattle.unfold.specs.Unfold.{Row, global}
@@ -65,12 +65,12 @@ module _ (way : Way) (p : Program) (rows : List Row) (ws used : List ℕ) (table
     pub sums : (t : Totals) → r ≡ Some t → Totaled totals t
 
 -- the way that is found: by the flag, by whether each number has a subroutine, and by whether no part fails
-abbrev pub way_by : Bool → Bool → Bool → Way
-way_by traced all made = pick traced (pick all (pick made Renumbered Stubbed) Stubbed) Copied
+abbrev pub way_by : ℕ → Bool → Bool → Way
+way_by traced all made = pick (eqb traced 0) Copied (pick all (pick made Renumbered Stubbed) Stubbed)
 
 -- the way that is tried first
-abbrev pub first_way : Bool → Bool → Way
-first_way traced all = pick traced (pick all Renumbered Stubbed) Copied
+abbrev pub first_way : ℕ → Bool → Way
+first_way traced all = pick (eqb traced 0) Copied (pick all Renumbered Stubbed)
 
 -- a plan: the way, which is the one that is tried first or, where a part fails by it, stubbed; and the bytes of all bodies by it
 module _ (p : Program) (rows : List Row) (ws used : List ℕ) (table : List Ranks) (globals : Ranks) (order : List ℕ) where

@@ -1,6 +1,6 @@
 -- Which way it is: no part fails exactly where the font can be renumbered, and a number without a subroutine fails it; and the bodies by
 -- the way are those of the subset.
-use Rattle.std.specs.Prelude.{ℕ, ◌<◌, ◌≡◌, refl, Bool, true, false, List, [], ◌∷◌, length, get_or, None, Option}
+use Rattle.std.specs.Prelude.{ℕ, ◌<◌, ◌≡◌, refl, Bool, true, false, List, [], ◌∷◌, eqb, length, get_or, None, Option}
 use Rattle.std.proofs.Math.Path.{sym, ap}
 use Rattle.std.proofs.Common.{◌∙◌, arith}
 use Rattle.octets.specs.Pick.{pick}
@@ -25,7 +25,7 @@ use Rattle.plan.specs.SameLaws.{hold_same}
 use Rattle.plan.specs.FontLaws.{locals_same, globals-same, glyphs-same}
 use Rattle.subset.specs.Way.{is_renumbered}
 use Rattle.subset.specs.declared.Way.{Way}
-use Rattle.subset.specs.declared.Way.TheVariants.{Renumbered, Stubbed}
+use Rattle.subset.specs.declared.Way.TheVariants.{Renumbered, Stubbed, Copied}
 use Rattle.subset.specs.Flag.{flag_of}
 
 -- ---- a number without a subroutine
@@ -101,15 +101,20 @@ module _ (p : Program) (good : GoodProgram p) (rows : List Row) (narrow : Narrow
     new-glyphs = glyphs-same p good rows narrow used ws globals table h way all order within
 
   -- the way that is found is that of the subset
-  pub way_is : (traced all : Bool) → all ≡ every_numbered p rows (fds_in used)
-      → way_by traced all (all_made Renumbered p rows ws used table globals order) ≡ (pruned p rows (fds_in used) order (flag_of traced)).way
-  way_is false all e = sym (ap (λ (q : Pruned). q.way) (pruned-by p rows (fds_in used) order 0))
-  way_is true all e =
-      ap (λ (t : Bool). pick t (pick (all_made Renumbered p rows ws used table globals order) Renumbered Stubbed) Stubbed) e
-      ∙ go (every_numbered p rows (fds_in used)) refl
-      ∙ sym (ap (λ (q : Pruned). q.way) (pruned-by p rows (fds_in used) order 1))
+  pub way_is : (traced : ℕ) (all : Bool) → all ≡ every_numbered p rows (fds_in used)
+      → way_by traced all (all_made Renumbered p rows ws used table globals order) ≡ (pruned p rows (fds_in used) order traced).way
+  way_is traced all e =
+      ap (λ (w : Way). pick (eqb traced 0) Copied w)
+      (ap (λ (t : Bool). pick t (pick (all_made Renumbered p rows ws used table globals order) Renumbered Stubbed) Stubbed) e ∙ go (every_numbered p rows (fds_in used)) refl)
+      ∙ sym (ap (λ (q : Pruned). q.way) (pruned-by p rows (fds_in used) order traced))
     where
       go : (t : Bool) → every_numbered p rows (fds_in used) ≡ t
           → pick t (pick (all_made Renumbered p rows ws used table globals order) Renumbered Stubbed) Stubbed ≡ pick (renumbers p rows (fds_in used) order) Renumbered Stubbed
       go true n = ap (λ (b : Bool). pick b Renumbered Stubbed) (made-renumbers n)
       go false n = sym (ap (λ (b : Bool). pick b Renumbered Stubbed) (unnumbered_fails p rows (fds_in used) order n))
+
+  -- the same of a flag that is set or not
+  pub way_flagged : (traced all : Bool) → all ≡ every_numbered p rows (fds_in used)
+      → pick traced (pick all (pick (all_made Renumbered p rows ws used table globals order) Renumbered Stubbed) Stubbed) Copied ≡ (pruned p rows (fds_in used) order (flag_of traced)).way
+  way_flagged false all e = way_is 0 all e
+  way_flagged true all e = way_is 1 all e

@@ -78,10 +78,10 @@ fn planned(way: Way, t: Totals) -> Plan
 }
 
 // The way that is tried first: copied by the flag; else renumbered where each number has a subroutine; else stubbed.
-pub fn first_way(traced: bool, all: bool) -> Way
+pub fn first_way(traced: u8, all: bool) -> Way
     ensures { result ≡ first_way traced all }
 {
-    if !traced {
+    if traced == 0 {
         return Way::Copied;
     }
     if all {
