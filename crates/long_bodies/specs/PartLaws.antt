@@ -172,21 +172,22 @@ module _ (rec : List ℕ) (octets : Octets rec) (s : code.Site) (once : two_leng
   fill_room = omega (arith, length-take-le n keys g.window.fits, gathers-few g, lent.room)
 
   -- the end is behind the offset
-  pub fill_past : (end : ℕ) → end ≡ end_of keys n to → offset < end
+  fill_past : (end : ℕ) → end ≡ end_of keys n to → offset < end
   fill_past end is-end = omega (arith, is-end, end_past rec octets b kind_fits fd_fits few (site_of s) is once offset to past near old keys n g lent.some)
 
-  pub fill_end : (end : ℕ) → end ≡ end_of keys n to → end ≤ 4294967296
+  fill_end : (end : ℕ) → end ≡ end_of keys n to → end ≤ 4294967296
   fill_end end is-end = omega (arith, is-end, near, end_near rec octets b kind_fits fd_fits few (site_of s) is once offset to past near old keys n g lent.some)
 
   -- THE LAW of filling
-  pub fill_gives : (end : ℕ) → end ≡ end_of keys n to → (ahead : offset < end) (close : end ≤ 4294967296) (bytes : List ℕ) (len : ℕ) → Wrote was 0 (rows_bytes b.kind b.fd (take n keys)) bytes len
-      → Gives rec bytes s (record { from = offset; end = end; len = len; some = ahead; near = close }) × (offset ≤ offset) × (offset < end)
-  fill_gives end is-end ahead close bytes len w = (
+  pub fill_gives : (end : ℕ) → end ≡ end_of keys n to → (bytes : List ℕ) (len : ℕ) → Wrote was 0 (rows_bytes b.kind b.fd (take n keys)) bytes len
+      → Gives rec bytes s (record { from = offset; end = end; len = len }) × (offset ≤ offset) × (offset < end) × (end ≤ 4294967296)
+  fill_gives end is-end bytes len w = (
     record {
       fits = part-fits rec octets b kind_fits fd_fits few (site_of s) is once offset to past near old keys n g lent.some was bytes lent.room len w;
       rising = part-rises rec octets b kind_fits fd_fits few (site_of s) is once offset to past near old keys n g lent.some was bytes lent.room len w;
       same = λ o from up. part_same rec octets b kind_fits fd_fits few (site_of s) is once offset to past near old keys n g lent.some was bytes lent.room len w o from (omega (arith, is-end));
     },
     omega arith,
-    ahead,
+    fill_past end is-end,
+    fill_end end is-end,
   )

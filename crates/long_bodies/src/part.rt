@@ -1,5 +1,4 @@
 // A part of the rows of masks of a body.
-ghost use Rattle.std.specs.Prelude.{◌≤◌, ◌<◌};
 
 // The offsets from one up to another, which is not among them, whose rows the first bytes of a slice have.
 #[derive(Clone, Copy)]
@@ -7,6 +6,4 @@ pub struct Part {
     pub from: usize,
     pub end: usize,
     pub len: usize,
-    ghost some: { from < end },
-    ghost near: { end ≤ 4294967296 },
 }
