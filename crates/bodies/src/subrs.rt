@@ -163,8 +163,9 @@ fn long_len(one: &Subr<'_>, lent: &mut Lent<'_>) -> Option<usize>
     Some(0)
 }
 
-// How long a subroutine is, by a window of the record that has its rows; a longer one takes the window's place. (glyph_bodies has the same of charstrings: a trait
-// for both would be longer, since each has its own clauses of what it asks of the font and the words, and of what a part of the record says of it.)
+// How long a subroutine is, by a window of the record that has its rows, or by all of it where the window begins behind it; a longer one takes the window's place.
+// (glyph_bodies has the same of charstrings: a trait for both would be longer, since each has its own clauses of what it asks of the font and the words, and of
+// what a part of the record says of it.)
 fn windowed_len(one: &Subr<'_>, window: Option<Window>, lent: &mut Lent<'_>) -> Option<usize>
     requires { (Shows one.now.of.now lent.old.bytes.now window) × (HasOrNone one.now.k window) }
     ensures { (result ≡ len_at (kept_of one.now.of.now) (subr_of one.now.of.now) one.now.k) × (AtMost 335544320 result)
@@ -173,6 +174,9 @@ fn windowed_len(one: &Subr<'_>, window: Option<Window>, lent: &mut Lent<'_>) -> 
     let Some(window) = window else {
         return long_len(one, lent);
     };
+    if one.k < window.from {
+        return subr_len(one);
+    }
     let all = one.of;
     let k = one.k;
     let part = Subroutines {
@@ -277,7 +281,7 @@ fn put_long(one: &Subr<'_>, out: &mut Out<'_>, lent: &mut Lent<'_>)
     crate::put_long_body(all.from.way, &long, out, lent)
 }
 
-// The same by a window of the record that has the rows of the subroutine; a longer one takes the window's place.
+// The same by a window of the record that has the rows of the subroutine, or by all of it where the window begins behind it; a longer one takes the window's place.
 fn put_windowed(one: &Subr<'_>, window: Option<Window>, out: &mut Out<'_>, lent: &mut Lent<'_>)
     requires { (Shows one.now.of.now lent.old.bytes.now window) × (HasOrNone one.now.k window)
         × (holds (written one.now) ≡ true) × (out.old.at + length (body_of_lem (written one.now)) ≤ length out.old.bytes.now) }
@@ -286,6 +290,9 @@ fn put_windowed(one: &Subr<'_>, window: Option<Window>, out: &mut Out<'_>, lent:
     let Some(window) = window else {
         return put_long(one, out, lent);
     };
+    if one.k < window.from {
+        return put_subr(one, out);
+    }
     let all = one.of;
     let k = one.k;
     let part = Subroutines {

@@ -89,7 +89,7 @@ fn long_len(one: &Charstring<'_>, lent: &mut Lent<'_>) -> Option<usize>
     bodies::long_body_len(one.from.how.way, &long, lent)
 }
 
-// The same by a part of the record that has the rows of the glyph; a longer one takes the part's place.
+// The same by a part of the record that has the rows of the glyph, or by all of it where the part begins behind the glyph; a longer one takes the part's place.
 pub fn windowed_len(
     one: &Charstring<'_>,
     masks: Option<Window>,
@@ -101,6 +101,9 @@ pub fn windowed_len(
     let Some(masks) = masks else {
         return long_len(one, lent);
     };
+    if one.glyph.number < masks.from {
+        return charstring_len(one);
+    }
     let part = Charstring {
         from: in_order(one.from),
         glyph: one.glyph,
@@ -131,7 +134,7 @@ fn put_long(one: &Charstring<'_>, out: &mut Out<'_>, lent: &mut Lent<'_>)
     bodies::put_long_body(one.from.how.way, &long, out, lent)
 }
 
-// The same by a part of the record that has the rows of the glyph; a longer one takes the part's place.
+// The same by a part of the record that has the rows of the glyph, or by all of it where the part begins behind the glyph; a longer one takes the part's place.
 pub fn put_windowed(
     one: &Charstring<'_>,
     masks: Option<Window>,
@@ -145,6 +148,9 @@ pub fn put_windowed(
     let Some(masks) = masks else {
         return put_long(one, out, lent);
     };
+    if one.glyph.number < masks.from {
+        return put_charstring(one, out);
+    }
     let part = Charstring {
         from: in_order(one.from),
         glyph: one.glyph,

@@ -6,15 +6,16 @@ use Rattle.bodies.proofs.subrs.put_windowed.Goals as goal
 pub rows-requires : goal.rows-requires
 rows-requires c = (covers_some c.in-Some.is c.requires.0).fits
 
-pub put_subr-requires : goal.put_subr-requires
-put_subr-requires c =
-    let has = has_some c.in-Some.is c.requires.1 in
-    subr_window-room _ _ _ c.args.one.now.of.now.from (covers_some c.in-Some.is c.requires.0) _ _ _ c.rows.ensures c.in_order.result c.in_order.ensures _ has.0 has.1 _ _ c.requires.2 c.requires.3
+pub returns-then-one-window : goal.returns-then-one-window
+returns-then-one-window c = (c.put_subr.ensures, c.requires.0)
+
+pub put_subr-requires-2 : goal.put_subr-requires-2
+put_subr-requires-2 c =
+    subr_window-room _ _ _ c.args.one.now.of.now.from (covers_some c.in-Some.is c.requires.0) _ _ _ c.rows.ensures c.in_order.result c.in_order.ensures _ c.if-one-window.false (has_some c.in-Some.is c.requires.1) _ _ c.requires.2 c.requires.3
 
 pub returns : goal.returns
 returns c =
-    let has = has_some c.in-Some.is c.requires.1 in
-    (subr_window-writes _ _ _ c.args.one.now.of.now.from (covers_some c.in-Some.is c.requires.0) _ _ _ c.rows.ensures c.in_order.result c.in_order.ensures _ has.0 has.1 c.put_subr.ensures, c.requires.0)
+    (subr_window-writes _ _ _ c.args.one.now.of.now.from (covers_some c.in-Some.is c.requires.0) _ _ _ c.rows.ensures c.in_order.result c.in_order.ensures _ c.if-one-window.false (has_some c.in-Some.is c.requires.1) c.put_subr-2.ensures, c.requires.0)
 
 pub put_long-requires : goal.put_long-requires
 put_long-requires c = (c.requires.2, c.requires.3)

@@ -3,13 +3,15 @@ use Rattle.bodies.specs.WindowsLaws.{subr_window_len}
 use Rattle.mask_rows.specs.FillLaws.{covers_some, covers_none, has_some}
 use Rattle.bodies.proofs.subrs.windowed_len.Goals as goal
 
+pub returns-then-one-window : goal.returns-then-one-window
+returns-then-one-window c = (c.subr_len.ensures.0, c.subr_len.ensures.1, c.requires.0)
+
 pub rows-requires : goal.rows-requires
 rows-requires c = (covers_some c.in-Some.is c.requires.0).fits
 
 pub returns : goal.returns
 returns c =
-    let has = has_some c.in-Some.is c.requires.1 in
-    let r = subr_window_len _ _ _ c.args.one.now.of.now.from (covers_some c.in-Some.is c.requires.0) _ _ _ c.rows.ensures c.in_order.result c.in_order.ensures _ has.0 has.1 _ c.subr_len.ensures in
+    let r = subr_window_len _ _ _ c.args.one.now.of.now.from (covers_some c.in-Some.is c.requires.0) _ _ _ c.rows.ensures c.in_order.result c.in_order.ensures _ c.if-one-window.false (has_some c.in-Some.is c.requires.1) _ c.subr_len-2.ensures in
     (r.0, r.1, c.requires.0)
 
 pub returns-in_default : goal.returns-in_default

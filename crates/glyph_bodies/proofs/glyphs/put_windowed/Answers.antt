@@ -9,15 +9,16 @@ rows-requires c = (covers_some c.in-Some.is c.requires.0).fits
 pub invariant_of-part : goal.invariant_of-part
 invariant_of-part c = record { asked = part-asked _ _ _ (covers_some c.in-Some.is c.requires.0) c.args.one.now.asked _ c.rows.ensures c.in_order.result c.in_order.ensures }
 
-pub put_charstring-requires : goal.put_charstring-requires
-put_charstring-requires c =
-    let has = has_some c.in-Some.is c.requires.1 in
-    part_room _ _ _ (covers_some c.in-Some.is c.requires.0) c.args.one.now.asked _ c.rows.ensures c.in_order.result c.in_order.ensures has.0 has.1 _ _ c.requires.2 c.requires.3
+pub put_charstring-requires-2 : goal.put_charstring-requires-2
+put_charstring-requires-2 c =
+    part_room _ _ _ (covers_some c.in-Some.is c.requires.0) c.args.one.now.asked _ c.rows.ensures c.in_order.result c.in_order.ensures c.if-one-masks.false (has_some c.in-Some.is c.requires.1) _ _ c.requires.2 c.requires.3
 
 pub returns : goal.returns
 returns c =
-    let has = has_some c.in-Some.is c.requires.1 in
-    (part-writes _ _ _ (covers_some c.in-Some.is c.requires.0) c.args.one.now.asked _ c.rows.ensures c.in_order.result c.in_order.ensures has.0 has.1 c.put_charstring.ensures, c.requires.0)
+    (part-writes _ _ _ (covers_some c.in-Some.is c.requires.0) c.args.one.now.asked _ c.rows.ensures c.in_order.result c.in_order.ensures c.if-one-masks.false (has_some c.in-Some.is c.requires.1) c.put_charstring-2.ensures, c.requires.0)
+
+pub returns-then-one-masks : goal.returns-then-one-masks
+returns-then-one-masks c = (c.put_charstring.ensures, c.requires.0)
 
 pub put_long-requires : goal.put_long-requires
 put_long-requires c = (c.requires.2, c.requires.3)
