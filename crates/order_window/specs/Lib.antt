@@ -4,3 +4,4 @@ pub mod Stays
 pub mod WindowLaws
 pub mod OrderLaws
 pub mod GatheredLaws
+pub mod LoopLaws

@@ -1,5 +1,5 @@
 -- What moving the window of kept glyphs leaves as it is, and what follows of their order.
-use Rattle.std.specs.Prelude.{ℕ, ◌%◌, ◌/◌, ◌<◌, ◌≡◌, refl, List, length, get_or}
+use Rattle.std.specs.Prelude.{ℕ, ◌%◌, ◌/◌, ◌≤◌, ◌<◌, ◌≡◌, refl, List, length, get_or}
 use Rattle.std.proofs.Common.{sym, ap, ◌∙◌, subst, arith}
 use Rattle.cff.specs.Reads.{program_of}
 use Rattle.cff.specs.declared.font.Font.{Font}
@@ -24,6 +24,10 @@ pub record Stays (old new : Kept) : Type 0 where
   pub size : length new.window.now ≡ length old.window.now
   pub same : new.window.ghost_name ≡ old.window.ghost_name
   pub whole : HoldsAll old.o → (new.o ≡ old.o) × (new.window.now ≡ old.window.now)
+
+-- a window that holds a place stays as it is where that place is asked for
+abbrev pub StaysAt : ℕ → Kept → Kept → Type 0
+StaysAt i old new = old.o.held.from ≤ i → i < old.o.held.walk.done → (new.o ≡ old.o) × (new.window.now ≡ old.window.now)
 
 pub stays-refl : (k : Kept) → Stays k k
 stays-refl k = record { font = refl; words = refl; f = refl; count = refl; size = refl; same = refl; whole = λ h. (refl, refl) }

@@ -26,7 +26,7 @@ pub struct Kept<'a> {
 }
 
 impl Kept<'_> {
-    ghost use Rattle.order_window.specs.Stays.{order_of, Stays};
+    ghost use Rattle.order_window.specs.Stays.{order_of, Stays, StaysAt};
 
     // The i-th word of the order, which the window holds.
     #[inline(always)]
@@ -41,7 +41,8 @@ impl Kept<'_> {
     #[inline(always)]
     pub fn word(&mut self, i: usize) -> usize
         requires { i < self.old.o.count }
-        ensures { (result ≡ get_or (order_of self.old) i 0) × (result < 4294967296) × Stays self.old self.new }
+        ensures { (result ≡ get_or (order_of self.old) i 0) × (result < 4294967296) × (Stays self.old self.new)
+            × StaysAt i self.old self.new }
     {
         if self.o.held.from <= i {
             if i < self.o.held.walk.done {
@@ -56,7 +57,7 @@ impl Kept<'_> {
     #[inline(never)]
     fn moved_to(&mut self, i: usize)
         requires { i < self.old.o.count }
-        ensures { (self.new.o.held.from ≤ i) × (i < self.new.o.held.walk.done) × Stays self.old self.new }
+        ensures { (self.new.o.held.from ≤ i) × (i < self.new.o.held.walk.done) × (Stays self.old self.new) × StaysAt i self.old self.new }
     {
         if i < self.o.held.from {
             self.back();
