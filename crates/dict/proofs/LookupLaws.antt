@@ -1,6 +1,6 @@
 -- Laws of looking an entry up: the place that was found holds the operands of the last entry, and what one, two or three operands say.
 use Prim.Native.Nat.{ℕ, zero, suc, ◌+◌, ◌-◌, ◌≤◌, ◌<◌}
-use Rattle.std.specs.Prelude.{◌≡◌, Bool, true, false, ltb, eqb, length, get_or, None, Option, Some, Result, Ok, Err}
+use Rattle.std.specs.Prelude.{◌≡◌, Bool, true, false, not, ltb, eqb, length, get_or, None, Option, Some, Result, Ok, Err}
 use Rattle.std.proofs.Math.Path.{refl}
 use Rattle.std.proofs.Common.{sym, ap, ◌∙◌, subst, not-suc-le-zero, add-one, arith, ltb-true, ltb-false}
 use mathlib.Core.List.{List, [], ◌∷◌}
@@ -14,8 +14,8 @@ use Rattle.decimal.specs.Values.{trunc_of}
 use Rattle.decimal.specs.Number.{Number, refused as refusedNumber, not_number, number, number_at, answer_of}
 use Rattle.decimal.specs.NumberLaws.{form_none}
 use Rattle.dict.specs.Dict.{Entry, Reading, stopped, got, entry_at, followed, readings_from, readings_at, before, gathered, dict_of}
-use Rattle.dict.specs.Lookup.{Operands, absent, operands, last_from, last_of, only, one_of, private_as, private_in, id_as, is_there, ros_as, ros_in}
-use Rattle.dict.specs.Op.{private, ros}
+use Rattle.dict.specs.Lookup.{Operands, absent, operands, last_from, last_of, only, one_of, private_as, private_in, id_as, is_there, ros_as, ros_in, stroked_as, stroked_in}
+use Rattle.dict.specs.Op.{private, ros, paint_type}
 use Rattle.dict.specs.Proper.{AllNormal}
 use Rattle.dict.specs.Places.{refusal_of, listed, entries_of, Good, last_place, place_of, or_none, operands_at, found_at}
 use Rattle.dict.specs.TokenLaws.{Further, further}
@@ -251,6 +251,15 @@ low_id false false false m sid h e = absurd (no cc)
 pub id_low : (o : Option Decimal) (sid : ℕ) → id_as o ≡ Some sid → sid < 65536
 id_low None sid e = absurd (no cc)
 id_low (Some d) sid e = low_id (eqb (trunc_of d) 0) d.neg (ltb (trunc_of d) 65536) (trunc_of d) sid refl e
+
+-- ---- PaintType
+
+module _ (es : List Entry) (r : Option Decimal) (e : r ≡ one_of paint_type es) where
+  pub stroked_absent : r ≡ None → false ≡ stroked_in es
+  stroked_absent f = ap stroked_as (sym f ∙ e)
+
+  pub stroked_number : (v : Decimal) → r ≡ Some v → not (eqb v.digits 0) ≡ stroked_in es
+  stroked_number v f = ap stroked_as (sym f ∙ e)
 
 -- ---- two operands, and three
 
