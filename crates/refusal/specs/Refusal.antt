@@ -32,4 +32,4 @@ number_or_0 (Ok u) = 0
 
 -- a number that a refused call can answer
 abbrev pub is_refusal : ℕ → Bool
-is_refusal n = pick (ltb n 1) false (leb n 15)
+is_refusal n = pick (ltb n (number_of Truncated)) false (leb n (number_of NoTable))
