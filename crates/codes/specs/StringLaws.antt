@@ -1,9 +1,12 @@
--- Laws of the glyph of a string id: it is found by the id's text, and one that is found is in the font.
-use Rattle.std.specs.Prelude.{ℕ, ◌+◌, ◌<◌, ◌≡◌, Bool, true, List, [], ◌∷◌, ltb, length, None, Option, Some}
-use Rattle.std.proofs.Common.{sym, ap, ◌∙◌, arith, lt-ltb}
+-- Laws of the glyph of a string id: the length of a standard text, that it is found by the id's text, and that one that is found is in the font.
+use Rattle.std.specs.Prelude.{ℕ, zero, suc, ◌+◌, ◌<◌, ◌≡◌, refl, Bool, true, List, [], ◌∷◌, map, ltb, length, get_or, None, Option, Some}
+use Rattle.std.proofs.Common.{sym, ap, ◌∙◌, arith, lt-ltb, ltb-true}
 use Rattle.octets.specs.Pick.{pick, pick_ind}
-use Rattle.strings.specs.Text.{same_text_lem}
-use Rattle.strings.specs.Strings.{string_text}
+use Rattle.octets.specs.PickLaws.{both_hold}
+use Rattle.octets.specs.Lists.{all_below}
+use Rattle.strings.specs.Table.{standard_names}
+use Rattle.strings.specs.Text.{codes, same_text_lem}
+use Rattle.strings.specs.Strings.{standard_strings, standard_string, string_text}
 use Rattle.charset.specs.CharsetFound.{good_length}
 use Rattle.find.specs.Find.{glyph_with_text}
 use Rattle.cff.specs.Font.{Program}
@@ -11,6 +14,19 @@ use Rattle.cff.specs.Reads.{GoodFont, program_of}
 use Rattle.cff.specs.declared.font.Font.{Font}
 use Rattle.subset.specs.Codes.{string_glyph}
 use Rattle.codes.specs.Filled.{stored}
+
+-- ---- the text of an id
+
+-- no standard string has more than 32 bytes
+short-at : (ss : List (List ℕ)) → all_below 33 (map length ss) ≡ true → (k : ℕ) → length (get_or ss k []) < 33
+unfolding all_below
+short-at [] e k = omega arith
+short-at (s ∷ ss) e zero = ltb-true (length s) 33 (both_hold (ltb (length s) 33) (all_below 33 (map length ss)) e).0
+short-at (s ∷ ss) e (suc k) = short-at ss (both_hold (ltb (length s) 33) (all_below 33 (map length ss)) e).1 k
+
+pub standard-short : (k : ℕ) → length (standard_string k) < 33
+unfolding standard_names codes standard_strings standard_string all_below
+standard-short k = short-at standard_strings refl k
 
 -- ---- by the text of an id
 
