@@ -1,5 +1,5 @@
 -- A text of stored cases (tools/oracle/README.md, 'Lines'): a line `KIND INPUT ANSWER` each.
--- A line agrees where our answer to its input is its answer; any other line has failed. none is passed over.
+-- A line agrees where our answer to its input is its answer; any other line has failed. None is passed over.
 use Rattle.std.specs.Prelude.{ℕ, ◌+◌, ◌-◌, Bool, false, List, [], ◌∷◌, ltb, leb, eqb, length, take, drop, get_or, None, Option, Some}
 use Rattle.octets.specs.Pick.{pick}
 use Rattle.hexlines.specs.Hexlines.{field_end_lem}

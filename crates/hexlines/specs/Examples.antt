@@ -1,5 +1,5 @@
 -- Worked examples, computed.
-use Rattle.std.specs.Prelude.{◌≡◌, refl, [], ◌∷◌, None, Some}
+use Rattle.std.specs.Prelude.{◌+◌, ◌≡◌, refl, [], ◌∷◌, drop, None, Some}
 use Rattle.octets.specs.Lists.{before}
 use Rattle.hexlines.specs.Hexlines.{hex_value_lem, octet_of, field_end_lem, is_hex_lem, spelt, hex_bytes}
 
@@ -29,7 +29,16 @@ edges : hex_value_lem 47 ∷ hex_value_lem 48 ∷ hex_value_lem 57 ∷ hex_value
 unfolding hex_value_lem
 edges = refl
 
--- `e 0`, a line feed, `e`: the fields of two lines
+-- `e 0`, a line feed, `e`: two lines, the first of two fields
+first-line : before 10 (101 ∷ 32 ∷ 48 ∷ 10 ∷ 101 ∷ []) ≡ 3
+unfolding before
+first-line = refl
+
+-- the last ends with the text
+last_line : 4 + before 10 (drop 4 (101 ∷ 32 ∷ 48 ∷ 10 ∷ 101 ∷ [])) ≡ 5
+unfolding before
+last_line = refl
+
 first_field : field_end_lem (101 ∷ 32 ∷ 48 ∷ 10 ∷ 101 ∷ []) 0 3 ≡ 1
 unfolding field_end_lem before
 first_field = refl

@@ -50,9 +50,10 @@ unfolding octet_of
 octet_small x y = omega (arith, digit_small x, digit_small y)
 
 -- what a text of hexadecimal says of its first pair
-hex-more : (x : ℕ) → is_hex_lem (x ∷ []) ≡ true → ⊥
+pub hex-more : (x : ℕ) (u : List ℕ) → is_hex_lem (x ∷ u) ≡ true → 0 < length u
 unfolding is_hex_lem
-hex-more x h = false≢true h
+hex-more x [] h = absurd (false≢true h)
+hex-more x (y ∷ u) h = omega arith
 
 hex-rest : (x y : ℕ) (u : List ℕ) → is_hex_lem (x ∷ (y ∷ u)) ≡ true → is_hex_lem u ≡ true
 unfolding is_hex_lem
@@ -76,7 +77,7 @@ spelt-none (x ∷ (y ∷ s)) h = absurd (omega arith)
 pub spelt-length : (t : List ℕ) → is_hex_lem t ≡ true → length (spelt t) * 2 ≡ length t
 unfolding spelt
 spelt-length [] h = refl
-spelt-length (x ∷ []) h = absurd (hex-more x h)
+spelt-length (x ∷ []) h = absurd (let k = hex-more x [] h in let z : ⊥ = omega arith in z)
 spelt-length (x ∷ (y ∷ u)) h = omega (arith, spelt-length u (hex-rest x y u h))
 
 -- ---- what is written
