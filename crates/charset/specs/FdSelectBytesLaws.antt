@@ -1,6 +1,6 @@
 -- Laws of a written FDSelect: its length, and its ranges glyph by glyph.
 use Rattle.std.specs.Prelude.{ℕ, suc, ◌+◌, ◌*◌, ◌≤◌, ◌<◌, ◌≡◌, refl, Bool, true, false, List, [], ◌∷◌, ◌++◌, length, take, drop, get_or, None, Option, Some}
-use Rattle.std.proofs.Common.{sym, ap, ◌∙◌, append_assoc, append-nil, add-zero, add-one, arith, eqb-true, take-append-drop, take-suc, length-append, length-take-le}
+use Rattle.std.proofs.Common.{sym, ap, ◌∙◌, append_assoc, append-nil, add-zero, add-one, arith, eqb-true, eq-eqb, ne_eqb, take-append-drop, take-suc, length-append, length-take-le}
 use Rattle.octets.specs.Pick.{pick, pick_ind}
 use Rattle.octets.specs.Octets.{bytes_of}
 use Rattle.octets.specs.OctetsLaws.{length-bytes}
@@ -36,7 +36,7 @@ unfoldable pub last_fd : Option ℕ → List ℕ → Option ℕ
 last_fd last [] = last
 last_fd last (fd ∷ fds) = last_fd (Some fd) fds
 
-last_snoc : (last : Option ℕ) (fds : List ℕ) (fd : ℕ) → last_fd last (fds ++ (fd ∷ [])) ≡ Some fd
+pub last_snoc : (last : Option ℕ) (fds : List ℕ) (fd : ℕ) → last_fd last (fds ++ (fd ∷ [])) ≡ Some fd
 unfolding last_fd
 last_snoc last [] fd = refl
 last_snoc last (x ∷ fds) fd = last_snoc (Some x) fds fd
@@ -45,7 +45,7 @@ both : (t : Bool) (a b c d more : List (ℕ × ℕ)) → (t ≡ true → a ≡ c
 both true a b c d more e f = e refl
 both false a b c d more e f = f
 
-changes_append : (last : Option ℕ) (g : ℕ) (fds more : List ℕ)
+pub changes_append : (last : Option ℕ) (g : ℕ) (fds more : List ℕ)
     → changes last g (fds ++ more) ≡ changes last g fds ++ changes (last_fd last fds) (g + length fds) more
 unfolding changes last_fd
 changes_append last g [] more = rw (add-zero g) refl
@@ -55,6 +55,36 @@ changes_append last g (x ∷ fds) more =
     (λ t. rw e at (changes_append last (g + 1) fds more)
     ∙ ap (λ (y : Option ℕ). changes last (g + 1) fds ++ changes (last_fd y fds) (g + suc (length fds)) more) (last_is last x t))
     (ap (λ (l : List (ℕ × ℕ)). (g, x) ∷ l) (rw e at (changes_append (Some x) (g + 1) fds more)))
+
+-- ---- one FD more
+
+-- the range that it starts, if any
+abbrev pub added : Option ℕ → ℕ → ℕ → List (ℕ × ℕ)
+added last g fd = pick (is_last last fd) [] ((g, fd) ∷ [])
+
+pub changes_snoc : (last : Option ℕ) (g : ℕ) (fds : List ℕ) (fd : ℕ)
+    → changes last g (fds ++ (fd ∷ [])) ≡ changes last g fds ++ added (last_fd last fds) (g + length fds) fd
+unfolding changes
+changes_snoc last g fds fd = changes_append last g fds (fd ∷ [])
+
+not-last : (last : Option ℕ) (fd : ℕ) → (Some fd ≡ last → ⊥) → is_last last fd ≡ false
+not-last None fd h = refl
+not-last (Some last) fd h = ne_eqb last fd (λ e. h (ap Some (sym e)))
+
+-- whether it starts one
+module _ (fds : List ℕ) (fd : ℕ) where
+  pub ranges-same : Some fd ≡ last_fd None fds → fd_ranges (fds ++ (fd ∷ [])) ≡ fd_ranges fds
+  ranges-same h =
+      let t : is_last (last_fd None fds) fd ≡ true = ap (λ (l : Option ℕ). is_last l fd) (sym h) ∙ eq-eqb fd fd refl in
+      changes_snoc None 0 fds fd ∙ rw t (append-nil (fd_ranges fds))
+
+  pub ranges-new : (Some fd ≡ last_fd None fds → ⊥) → fd_ranges (fds ++ (fd ∷ [])) ≡ fd_ranges fds ++ ((length fds, fd) ∷ [])
+  ranges-new h =
+      let t : is_last (last_fd None fds) fd ≡ false = not-last (last_fd None fds) fd h in
+      let e : 0 + length fds ≡ length fds = omega arith in
+      changes_snoc None 0 fds fd ∙ rw (t, e) refl
+
+-- ---- glyph by glyph
 
 -- glyph i behind those before it
 module _ (fds : List ℕ) (i : ℕ) (h : i < length fds) where
@@ -96,7 +126,7 @@ module _ (fds : List ℕ) (i : ℕ) (h : i < length fds) where
             ∙ append_assoc (fd_ranges (take i fds)) ((i, fd) ∷ []) more,
       )
 
--- ---- how many ranges: no more than glyphs
+-- ---- how many ranges: no more than glyphs, and no fewer with more glyphs
 
 pub changes-few : (last : Option ℕ) (g : ℕ) (fds : List ℕ) → length (changes last g fds) ≤ length fds
 unfolding changes
@@ -104,3 +134,7 @@ changes-few last g [] = omega arith
 changes-few last g (fd ∷ fds) =
     pick_ind (λ (l : List (ℕ × ℕ)). length l ≤ suc (length fds)) (is_last last fd) _ _
     (λ t. omega (arith, changes-few last (g + 1) fds)) (λ t. omega (arith, changes-few (Some fd) (g + 1) fds))
+
+pub changes-grow : (last : Option ℕ) (g : ℕ) (fds more : List ℕ) → length (changes last g fds) ≤ length (changes last g (fds ++ more))
+changes-grow last g fds more =
+    omega (arith, ap length (changes_append last g fds more), length-append (changes last g fds) (changes (last_fd last fds) (g + length fds) more))

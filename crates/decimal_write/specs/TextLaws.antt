@@ -118,6 +118,9 @@ digit_at (suc k) n i x h = go (dec_lt i k) (digit_at k (n / 10) i x)
 
 -- ---- the integer part
 
+pub digits_width : (d : Decimal) → Normal d → width_of d.digits ≤ 15
+digits_width d h = width_below 14 d.digits h.few
+
 module _ (d : Decimal) (h : Reduced d) where
   pub whole-up : (w : ℕ) → d.down ≡ 0 → w ≡ width_of d.digits → w + d.up ≡ width_of (trunc_of d)
   whole-up w e q = go (eq-zero-or-pos d.digits)
@@ -158,7 +161,7 @@ pub whole_width : (d : Decimal) → Normal d → width_of (trunc_of d) ≤ 45
 whole_width d h = go (eq-zero-or-pos d.down)
   where
     go : (d.down ≡ 0) ⊎ (0 < d.down) → width_of (trunc_of d) ≤ 45
-    go (inl e) = omega (arith, whole-up d (reduced d h) (width_of d.digits) e refl, width_below 14 d.digits h.few, h.high)
+    go (inl e) = omega (arith, whole-up d (reduced d h) (width_of d.digits) e refl, digits_width d h, h.high)
     go (inr p) =
         let t : trunc_of d ≡ d.digits / 10 ^ d.down = trunc-fraction d (one_power d (reduced d h) (λ e. omega arith)) in
         let l : trunc_of d ≤ d.digits = rw t (div-le_self d.digits (10 ^ d.down)) in

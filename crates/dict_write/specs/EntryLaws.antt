@@ -1,11 +1,12 @@
 -- Laws of copying an entry: its operands walked where they stand, each measured or written.
-use Rattle.std.specs.Prelude.{ℕ, suc, ◌-◌, ◌≤◌, ◌<◌, ◌≡◌, refl, Result, Ok, Err, Option, Some, None}
+use Rattle.std.specs.Prelude.{ℕ, suc, ◌-◌, ◌≤◌, ◌<◌, ◌≡◌, refl, length, Result, Ok, Err, Option, Some, None}
 use Rattle.std.proofs.Common.{sym, ◌∙◌, arith}
 use Rattle.std.proofs.Math.Path.{ap}
 use mathlib.Core.List.{List, [], ◌∷◌, ◌++◌, append_assoc, append-nil}
+use Rattle.octets.specs.Octets.{Octets}
 use Rattle.decimal.specs.declared.Decimal.{Decimal}
-use Rattle.decimal.specs.Number.{number, number_at, answer_of}
-use Rattle.decimal.specs.TakenLaws.{answer-number}
+use Rattle.decimal.specs.Number.{number, number_at, answer_of, Taken}
+use Rattle.decimal.specs.TakenLaws.{number-taken, answer-number}
 use Rattle.decimal.specs.Written.{number_bytes}
 use Rattle.dict.specs.Places.{operands_at}
 use Rattle.dict.proofs.LookupLaws.{operands_next, operands_none}
@@ -45,6 +46,9 @@ module _ (b : List ℕ) (at left : ℕ) (r : Result (Option NumberAt) Refusal) (
   module _ (t : NumberAt) (f : r ≡ Ok (Some t)) where
     here : number_at b at ≡ number t.value t.next
     here = answer-number (number_at b at) t (sym f ∙ e)
+
+    pub operand_taken : Octets b → at < length b → Taken b at t.value t.next
+    operand_taken o h = number-taken b at t.value t.next o h here
 
     pub operand_first : 0 < left → operands_at left b at ≡ t.value ∷ operands_at (left - 1) b t.next
     operand_first h =
