@@ -126,10 +126,10 @@ module _ (b : List ℕ) (strings globals : Index) (items : List (List ℕ)) wher
 -- ---- the INDEXes of the set
 
 module _ (b : List ℕ) (at : ℕ) where
-  index-bad : {B : Type 0} (f : List (List ℕ) → ℕ → Result B Refusal) (n : Refusal) → Err n ≡ index_at b at → index_then (read_index b at) f ≡ Err n
+  pub index-bad : {B : Type 0} (f : List (List ℕ) → ℕ → Result B Refusal) (n : Refusal) → Err n ≡ index_at b at → index_then (read_index b at) f ≡ Err n
   index-bad f n e = ap (λ r. index_then r f) (read_refused b at n (sym e))
 
-  index_on : {B : Type 0} (f : List (List ℕ) → ℕ → Result B Refusal) (ix : Index) → Ok ix ≡ index_at b at → index_then (read_index b at) f ≡ f (items_of b ix) ix.end
+  pub index_on : {B : Type 0} (f : List (List ℕ) → ℕ → Result B Refusal) (ix : Index) → Ok ix ≡ index_at b at → index_then (read_index b at) f ≡ f (items_of b ix) ix.end
   index_on f ix e = ap (λ r. index_then r f) (read_found b at ix (sym e))
 
 module _ (b : List ℕ) (names : ℕ) (tops : Index) where

@@ -51,7 +51,7 @@ module _ (slots : List Slot) (j op : ℕ) where
   slot-none h = sym (ap (λ (o : Option ℕ). pick (is_some o) (value_entry op (get_or slots j no_slot).id) []) h)
 
 -- the new id of a slot is one
-slot_small : (slots : List Slot) (j : ℕ) → Filled slots → j < 8 → (get_or slots j no_slot).id < 1000000000000000
+pub slot_small : (slots : List Slot) (j : ℕ) → Filled slots → j < 8 → (get_or slots j no_slot).id < 1000000000000000
 slot_small slots j f h = omega (arith, f.small j h)
 
 six_operators : (k : ℕ) → k < 6 → is_operator (get_or copied_top_strings k 0) ≡ true
