@@ -1,7 +1,7 @@
 // The cut of a CID-keyed font (the Rust's subset_cid).
 #![tactic(auto)]
 
-ghost use Rattle.std.specs.Prelude.{true, false, ◌≤◌, ◌<◌, length};
+ghost use Rattle.std.specs.Prelude.{true, false, ◌≤◌, ◌<◌, length, take};
 ghost use Rattle.cff.specs.Loaded.{program};
 ghost use Rattle.outcome.specs.Entry.{cut_behind, Cut, Passed};
 ghost use Rattle.subset.specs.Flag.{flag_of};
@@ -48,11 +48,11 @@ fn plan_cut(
     asked: &Asked<'_>,
     words: &mut [u32],
     window: &mut [u32],
-    slots: &mut [Slot; 8],
+    slots: &mut [Slot],
     tables: &mut Tables,
 ) -> Prepared
-    requires { CidOrdered font.now o words.old window.old }
-    ensures { Prepares font.now asked.now.rows.now (flag_of asked.now.traced) o words.old slots.new words.new window.new tables.new result }
+    requires { (CidOrdered font.now o words.old window.old) × (8 ≤ length slots.old) }
+    ensures { Prepares font.now asked.now.rows.now (flag_of asked.now.traced) o words.old (take 8 slots.new) words.new window.new tables.new result }
 {
     let loaded = Loaded {
         bytes: font,
@@ -91,11 +91,11 @@ pub fn prepare<'a, 'f: 'a, 'n: 'a>(
     asked: &Asked<'n>,
     words: &'a mut [u32],
     window: &'a mut [u32],
-    slots: &'a mut [Slot; 8],
+    slots: &'a mut [Slot],
     tables: &'a mut Tables,
 ) -> CidSubset<'a>
     requires { (Passed true false (program font.now.loaded) (length asked.now.name.now) keep.now asked.now.rows.now (flag_of asked.now.traced) (length words.old))
-        × (0 < length window.old) }
+        × (0 < length window.old) × (8 ≤ length slots.old) }
     ensures { CutsAs result (cut_behind false (program font.now.loaded) asked.now.name.now keep.now asked.now.rows.now (flag_of asked.now.traced)) }
 {
     let bytes = font.loaded.bytes;

@@ -1,7 +1,7 @@
 // The cut of a name-keyed font (the Rust's subset).
 #![tactic(auto)]
 
-ghost use Rattle.std.specs.Prelude.{false, ◌≡◌, ◌≤◌, ◌<◌, length};
+ghost use Rattle.std.specs.Prelude.{false, ◌≡◌, ◌≤◌, ◌<◌, length, take};
 ghost use Rattle.cff.specs.Loaded.{program};
 ghost use Rattle.subset.specs.Flag.{flag_of};
 ghost use Rattle.outcome.specs.Entry.{cut_behind, Cut, Passed};
@@ -58,12 +58,12 @@ fn plan_cut(
     asked: &Asked<'_>,
     words: &mut [u32],
     window: &mut [u32],
-    slots: &mut [Slot; 8],
-    codes: &mut [Option<u32>; 256],
+    slots: &mut [Slot],
+    codes: &mut [Option<usize>],
     tables: &mut Tables,
 ) -> Result<CodedCut, Refusal>
-    requires { NamedCut font.now o words.old window.old }
-    ensures { Prepares ask font.now asked.now.rows.now (flag_of asked.now.traced) o words.old slots.new codes.new words.new window.new tables.new result }
+    requires { (NamedCut font.now o words.old window.old) × (8 ≤ length slots.old) × (256 ≤ length codes.old) }
+    ensures { Prepares ask font.now asked.now.rows.now (flag_of asked.now.traced) o words.old (take 8 slots.new) codes.new words.new window.new tables.new result }
 {
     let mut kept = Kept {
         font,
@@ -109,12 +109,12 @@ pub fn prepare<'a, 'f: 'a, 'n: 'a>(
     asked: &Asked<'n>,
     words: &'a mut [u32],
     window: &'a mut [u32],
-    slots: &'a mut [Slot; 8],
-    codes: &'a mut [Option<u32>; 256],
+    slots: &'a mut [Slot],
+    codes: &'a mut [Option<usize>],
     tables: &'a mut Tables,
 ) -> Result<NamedSubset<'a>, Refusal>
     requires { (Passed false ask (program font.now.loaded) (length asked.now.name.now) keep.now asked.now.rows.now (flag_of asked.now.traced) (length words.old))
-        × (0 < length window.old) }
+        × (0 < length window.old) × (8 ≤ length slots.old) × (256 ≤ length codes.old) }
     ensures { CutsAs (cut_behind ask (program font.now.loaded) asked.now.name.now keep.now asked.now.rows.now (flag_of asked.now.traced)) result }
 {
     let bytes = font.loaded.bytes;

@@ -1,6 +1,6 @@
 -- A CID-keyed subset over what the code holds (document 01, 'Layout'): the places of its parts, and the parts in three groups, as they are
 -- written.
-use Rattle.std.specs.Prelude.{ℕ, ◌+◌, ◌*◌, ◌≤◌, ◌<◌, ◌≡◌, true, List, ◌++◌, ltb, length}
+use Rattle.std.specs.Prelude.{ℕ, ◌+◌, ◌*◌, ◌≤◌, ◌<◌, ◌≡◌, true, List, ◌++◌, ltb, length, take}
 use Rattle.octets.specs.Pick.{pick}
 use Rattle.index.specs.Write.{index_bytes, index_len_lem}
 use Rattle.unfold.specs.Unfold.{Row}
@@ -142,7 +142,7 @@ module _ (b : List ℕ) (rows : List Row) (used ws : List ℕ) (r : Planned) whe
 pub record PartsReady (b ws : List ℕ) (o : Order) (parts : Parts) : Type 0 where
   pub cid : CidReady b (rows_of parts.rows.now) parts.used.now ws parts.cut.plan parts.table.now
   pub summed : Summed b (rows_of parts.rows.now) parts.used.now ws parts.cut.plan parts.table.now parts.totals.now
-  pub strings : StringsReady (program_of b parts.cut.plan.order.f) parts.slots.now parts.cut.own
+  pub strings : StringsReady (program_of b parts.cut.plan.order.f) (take 8 parts.slots.now) parts.cut.own
   pub short : length parts.name.now ≤ 65535
   pub counted : parts.cut.count ≡ length (fds_in parts.used.now)
   pub walked : Walked o parts.cut.plan.order

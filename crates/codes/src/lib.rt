@@ -13,20 +13,20 @@ ghost use Rattle.codes.specs.Filled.{stored, filled, Fills};
 use cff::loaded::Loaded;
 
 // A code names a glyph by its number, of n glyphs: nothing where there is no such code or glyph.
-fn name_glyph(table: &mut [Option<u16>; 256], n: u16, code: usize, glyph: usize)
+fn name_glyph(table: &mut [Option<usize>; 256], n: usize, code: usize, glyph: usize)
     ensures { table.new ≡ stored table.old code (pick (ltb glyph n) (Some glyph) None) }
 {
-    if usize::from(n) <= glyph {
+    if n <= glyph {
         return;
     }
     if 256 <= code {
         return;
     }
-    table[code] = Some(glyph as u16);
+    table[code] = Some(glyph);
 }
 
 // Format 0: count codes, of the glyphs from 1 on.
-fn fill_codes(font: &[u8], at: usize, count: usize, n: u16, table: &mut [Option<u16>; 256])
+fn fill_codes(font: &[u8], at: usize, count: usize, n: usize, table: &mut [Option<usize>; 256])
     requires { (at + count ≤ length font.now) × (count < 256) }
     ensures { Fills n table.old (codes_from 1 (take count (drop at font.now))) table.new }
 {
@@ -36,7 +36,7 @@ fn fill_codes(font: &[u8], at: usize, count: usize, n: u16, table: &mut [Option<
 }
 
 // A range of count codes from one on, of the glyphs from one on.
-fn fill_range(n: u16, first: usize, from: usize, count: usize, table: &mut [Option<u16>; 256])
+fn fill_range(n: usize, first: usize, from: usize, count: usize, table: &mut [Option<usize>; 256])
     requires { (first < 256) × (from ≤ 65536) × (count ≤ 256) }
     ensures { Fills n table.old (range_from count first from) table.new }
 {
@@ -46,7 +46,7 @@ fn fill_range(n: u16, first: usize, from: usize, count: usize, table: &mut [Opti
 }
 
 // Format 1: count ranges, of the glyphs from 1 on; a glyph at a code above 255 counts.
-fn fill_ranges(font: &[u8], at: usize, count: usize, n: u16, table: &mut [Option<u16>; 256])
+fn fill_ranges(font: &[u8], at: usize, count: usize, n: usize, table: &mut [Option<usize>; 256])
     requires { (at + count * 2 ≤ length font.now) × (count < 256) }
     ensures { Fills n table.old (ranges_from count 1 (drop at font.now)) table.new }
 {
@@ -65,8 +65,8 @@ fn fill_first(
     at: usize,
     kind: usize,
     count: usize,
-    n: u16,
-    table: &mut [Option<u16>; 256],
+    n: usize,
+    table: &mut [Option<usize>; 256],
 )
     requires { (kind ≤ 1) × (at + count * (kind + 1) ≤ length font.now) × (count < 256) }
     ensures { Fills n table.old
@@ -96,10 +96,10 @@ fn glyph_of_string(font: &Loaded<'_>, sid: usize) -> Option<usize>
 }
 
 // A code names the glyph of a string.
-fn name_string(font: &Loaded<'_>, code: usize, sid: usize, table: &mut [Option<u16>; 256])
+fn name_string(font: &Loaded<'_>, code: usize, sid: usize, table: &mut [Option<usize>; 256])
     ensures { table.new ≡ stored table.old code (string_glyph (program font.now) sid) }
 {
-    let n = font.f.charstrings.count as u16;
+    let n = font.f.charstrings.count;
     let found = glyph_of_string(font, sid);
     match found {
         None => {}
@@ -108,7 +108,7 @@ fn name_string(font: &Loaded<'_>, code: usize, sid: usize, table: &mut [Option<u
 }
 
 // The supplements: count codes with a string id each.
-fn fill_supplements(font: &Loaded<'_>, at: usize, count: usize, table: &mut [Option<u16>; 256])
+fn fill_supplements(font: &Loaded<'_>, at: usize, count: usize, table: &mut [Option<usize>; 256])
     requires { at + count * 3 ≤ length font.now.bytes.now }
     ensures { table.new ≡ filled (program font.now) table.old (supplied_from count (drop at font.now.bytes.now)) }
 {
@@ -120,11 +120,11 @@ fn fill_supplements(font: &Loaded<'_>, at: usize, count: usize, table: &mut [Opt
 }
 
 // All that the encoding of a font says, which has one of its own: the codes or ranges, and then the supplements.
-fn fill_all(font: &Loaded<'_>, table: &mut [Option<u16>; 256])
+fn fill_all(font: &Loaded<'_>, table: &mut [Option<usize>; 256])
     requires { (length font.now.bytes.now ≤ 67108864) × (2 ≤ font.now.f.encoding) }
     ensures { table.new ≡ filled (program font.now) table.old (namings_at font.now.bytes.now font.now.f.encoding) }
 {
-    let n = font.f.charstrings.count as u16;
+    let n = font.f.charstrings.count;
     let at = font.f.encoding;
     let format = octets::u8_at(font.bytes, at);
     let kind = format % 128;
@@ -138,7 +138,7 @@ fn fill_all(font: &Loaded<'_>, table: &mut [Option<u16>; 256])
 }
 
 // The same in the first 256 places of a table.
-pub fn fill(font: &Loaded<'_>, table: &mut [Option<u16>])
+pub fn fill(font: &Loaded<'_>, table: &mut [Option<usize>])
     requires { (length font.now.bytes.now ≤ 67108864) × (2 ≤ font.now.f.encoding) × (256 ≤ length table.old) }
     ensures { table.new ≡ filled (program font.now) table.old (namings_at font.now.bytes.now font.now.f.encoding) }
 {

@@ -1,6 +1,7 @@
 -- Laws of what a subset has: by the encoding of the font, and how many bytes it has and where it points.
-use Rattle.std.specs.Prelude.{ℕ, ◌≤◌, ◌≡◌, refl, Bool, true, false, List, eqb, length, get_or, replicate, None, Option}
+use Rattle.std.specs.Prelude.{ℕ, ◌≤◌, ◌≡◌, refl, Bool, true, false, List, ◌++◌, eqb, length, get_or, replicate, None, Option}
 use Rattle.std.proofs.Common.{sym, ap, ◌∙◌, arith, eq-eqb, ne_eqb}
+use Rattle.std.proofs.Math.ListN.{get_or-append}
 use Rattle.octets.specs.Pick.{pick}
 use Rattle.charset.specs.Codes.{namings_at}
 use Rattle.cff.specs.Font.{Program, custom, coding_at}
@@ -10,7 +11,7 @@ use Rattle.subset.specs.Codes.{Coded, none, pairs, pairs_from, coded_by_lem, pai
 use Rattle.codes.specs.Filled.{filled}
 use Rattle.codes.specs.FilledLaws.{filled-empty}
 use Rattle.encoding.specs.Encoded.{pairs_of, pairs_in, coded_in, Encodes, encoding_len, offset_for, Renames}
-use Rattle.encoding.specs.PairLaws.{pair-bytes-length, pairs-same}
+use Rattle.encoding.specs.PairLaws.{pair-bytes-length, pairs-same, pairs_alike}
 use Rattle.encoding.specs.declared.Encoding.{Encoding}
 use Rattle.encoding.specs.declared.Encoding.TheVariants.{Absent, Expert, Pairs}
 
@@ -70,6 +71,16 @@ module _ (coded : Coded) (table : List (Option ℕ)) (e : Encoding) (s : Encodes
 
   pub encodes-offset : (at : ℕ) → coded_at coded at ≡ offset_for e at
   encodes-offset at = sym (ap (λ (c : Coded). coded_at c at) s.is) ∙ offset-by table e at
+
+-- ---- in front of more
+
+coded_front : (first rest : List (Option ℕ)) → length first ≡ 256 → (e : Encoding) → coded_in e (first ++ rest) ≡ coded_in e first
+coded_front first rest n Absent = refl
+coded_front first rest n Expert = refl
+coded_front first rest n (Pairs k) = ap pairs (pairs_alike (first ++ rest) first (λ c h. get_or-append first rest None c (omega (arith, n))) 256 0 (omega arith))
+
+pub encodes_front : (coded : Coded) (first rest : List (Option ℕ)) (e : Encoding) → length first ≡ 256 → Encodes coded first e → Encodes coded (first ++ rest) e
+encodes_front coded first rest e n s = record { is = coded_front first rest n e ∙ s.is; many = s.many; small = s.small }
 
 -- ---- asked for or not
 

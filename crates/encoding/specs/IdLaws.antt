@@ -14,8 +14,8 @@ use Rattle.encoding.specs.Encoded.{has_glyph, Past, Puts, held_after, Renames}
 
 -- ---- above all glyphs with a code
 
-pub past_none : (named : List (Option ℕ)) → Past named 0 0
-past_none named = record { each = λ c g h e. absurd (omega arith) }
+pub past_none : (named : List (Option ℕ)) (past : ℕ) → Past named 0 past
+past_none named past = record { each = λ c g h e. absurd (omega arith) }
 
 module _ (named : List (Option ℕ)) (code past : ℕ) (l : Past named code past) where
   pub past_next : (held : Option ℕ) → held ≡ get_or named code None → (r : ℕ) → past ≤ r → ((g : ℕ) → held ≡ Some g → g < r) → Past named (code + 1) r

@@ -40,6 +40,14 @@ pub pairs-none : (table : List (Option ℕ)) (c : ℕ) → 256 ≤ c → pairs_i
 unfolding pairs_in
 pairs-none table c h = let e : 256 - c ≡ 0 = omega arith in ap (λ (m : ℕ). pairs_in table m c) e
 
+-- by what the table holds of the codes, whatever is behind them
+pub pairs_alike : (xs ys : List (Option ℕ)) → ((c : ℕ) → c < 256 → get_or xs c None ≡ get_or ys c None) → (m c : ℕ) → c + m ≤ 256 → pairs_in xs m c ≡ pairs_in ys m c
+unfolding pairs_in
+pairs_alike xs ys e zero c h = refl
+pairs_alike xs ys e (suc m) c h =
+    ap (λ (x : Option ℕ). pair_in c x ++ pairs_in xs m (c + 1)) (e c (omega arith))
+    ∙ ap (λ (l : List Pair). pair_in c (get_or ys c None) ++ l) (pairs_alike xs ys e m (c + 1) (omega arith))
+
 -- ---- the pairs of the definition
 
 module _ (p : Program) (own : List (List ℕ)) (gs : List ℕ) where

@@ -1,9 +1,9 @@
 -- Laws of writing: one pair, the pairs that are left, and the whole encoding.
 use Rattle.std.specs.Prelude.{ℕ, suc, ◌+◌, ◌-◌, ◌≤◌, ◌<◌, ◌≡◌, refl, get_or, None, Option, Some}
 use Rattle.std.proofs.Math.Path.{sym, ap}
-use Rattle.std.proofs.Common.{◌∙◌, subst, arith, length-append}
+use Rattle.std.proofs.Common.{◌∙◌, subst, arith, get_or-take, length-append}
 use mathlib.Core.List.{List, [], ◌∷◌, ◌++◌, append-nil}
-use Rattle.std.proofs.Math.ListN.{length}
+use Rattle.std.proofs.Math.ListN.{length, take}
 use Rattle.octets.specs.Octets.{bytes_of, put}
 use Rattle.octets.specs.OctetsLaws.{length-bytes}
 use Rattle.octets.specs.PutLaws.{put_nil, put-put}
@@ -12,7 +12,7 @@ use Rattle.octets.specs.Out.{Writes}
 use Rattle.octets.specs.OutLaws.{writes_none, writes_then, writes_as, writes-room}
 use Rattle.subset.specs.Codes.{pair_count, pair_bytes, coded_bytes}
 use Rattle.encoding.specs.Encoded.{pairs_of, pair_in, pairs_in, coded_in, Encodes}
-use Rattle.encoding.specs.PairLaws.{pair-bytes-append, pairs-more, pairs-none}
+use Rattle.encoding.specs.PairLaws.{pair-bytes-append, pairs-more, pairs-none, pairs_alike}
 use Rattle.encoding.specs.declared.Encoding.{Encoding}
 use Rattle.encoding.specs.declared.Encoding.TheVariants.{Absent, Expert, Pairs}
 
@@ -91,6 +91,10 @@ module _ (table : List (Option ℕ)) (old out : Out) (c : ℕ) (room : old.at + 
         same = l.same;
         size = l.size;
       }
+
+-- those of the first 256 places
+pub pairs_first : (table : List (Option ℕ)) → pairs_in (take 256 table) 256 0 ≡ pairs_in table 256 0
+pairs_first table = pairs_alike (take 256 table) table (λ c h. get_or-take 256 table c None h) 256 0 (omega arith)
 
 -- ---- the whole
 

@@ -2,7 +2,7 @@
 // and written. The kept glyphs come from windows of their order (document 02, Wish 10), once for all codes.
 #![tactic(auto)]
 
-ghost use Rattle.std.specs.Prelude.{◌≡◌, ◌+◌, ◌≤◌, ◌<◌, length};
+ghost use Rattle.std.specs.Prelude.{◌≡◌, ◌+◌, ◌≤◌, ◌<◌, length, take};
 ghost use Rattle.octets.specs.Out.{Writes};
 ghost use Rattle.cff.specs.Reads.{program_of};
 ghost use Rattle.subset.specs.Codes.{coded_by_lem, coded_if, coded_bytes, pair_bytes};
@@ -37,31 +37,31 @@ impl Encoding {
     }
 }
 
-// A number above those of all glyphs that have a code.
-fn past_all(named: &[Option<u16>; 256]) -> usize
-    ensures { Past named.now 256 result }
+// The last glyph that has a code, or 0.
+fn last_coded(named: &[Option<usize>; 256]) -> usize
+    ensures { Past named.now 256 (result + 1) }
 {
-    let mut past = 0;
+    let mut last = 0;
     for glyph in named {
         if let Some(g) = *glyph {
-            past = past.max(usize::from(g) + 1);
+            last = last.max(g);
         }
     }
-    past
+    last
 }
 
-// Puts the new id of a glyph into the places of its codes.
+// Puts the new id of a glyph into the places of its codes, the last glyph that has one being given.
 fn put_id(
-    named: &[Option<u16>; 256],
-    past: usize,
-    glyph: u16,
-    id: u32,
-    table: &mut [Option<u32>; 256],
+    named: &[Option<usize>; 256],
+    last: usize,
+    glyph: usize,
+    id: usize,
+    table: &mut [Option<usize>; 256],
 )
-    requires { Past named.now 256 past }
+    requires { Past named.now 256 (last + 1) }
     ensures { Puts named.now table.old glyph id table.new }
 {
-    if past <= usize::from(glyph) {
+    if last < glyph {
         return;
     }
     for (code, held) in table.iter_mut().enumerate() {
@@ -71,15 +71,15 @@ fn put_id(
     }
 }
 
-// The table of all codes, from the one of their glyphs: each kept glyph in its turn, with the new id of its name. (An id is
-// as wide as the count of own strings may be: that they fit two bytes is tested by by_name.)
+// The table of all codes, from the one of their glyphs: each kept glyph in its turn, with the new id of its name. (That the ids fit two bytes is tested
+// by by_name.)
 fn rename(
     kept: &mut Kept<'_>,
-    slots: &[Slot; 8],
-    named: &[Option<u16>; 256],
-    table: &mut [Option<u32>; 256],
+    slots: &[Slot],
+    named: &[Option<usize>; 256],
+    table: &mut [Option<usize>; 256],
 )
-    requires { CanRename kept.old.font.now kept.old.o.f kept.old.words.now slots.now }
+    requires { CanRename kept.old.font.now kept.old.o.f kept.old.words.now (take 8 slots.now) }
     ensures { (Renames (program_of kept.old.font.now kept.old.o.f) (own_kept kept.old) (kept_glyphs kept.old) named.now table.new)
         × Stays kept.old kept.new }
 {
@@ -89,32 +89,32 @@ fn rename(
         ix: kept.o.f.strings,
     };
     *table = [None; 256];
-    let past = past_all(named);
+    let last = last_coded(named);
     let given = GivenSlots { strings, slots };
     let mut own = name_strings::slots_own(&given);
     for i in 0..kept.o.count {
         let w = kept.word(i);
-        let id = own_strings::given_id(&strings, slots, own.count, Some(w / 65536));
+        let id = own_strings::given_id(&strings, &slots[..8], own.count, Some(w / 65536));
         own = own_strings::count_one(&strings, own, w / 65536, id);
-        put_id(named, past, (w % 65536) as u16, id as u32, &mut *table);
+        put_id(named, last, w % 65536, id, &mut *table);
     }
 }
 
 // How many pairs the table holds.
-fn pair_count(table: &[Option<u32>; 256]) -> usize
+fn pair_count(table: &[Option<usize>; 256]) -> usize
     ensures { (result ≡ length (pairs_in table.now 256 0)) × (result ≤ 256) }
 {
     table.iter().filter(|held| held.is_some()).count()
 }
 
 // The encoding of the subset of a name-keyed font, which was asked for.
-fn encode_asked(kept: &mut Kept<'_>, slots: &[Slot; 8], table: &mut [Option<u32>; 256]) -> Encoding
-    requires { CanRename kept.old.font.now kept.old.o.f kept.old.words.now slots.now }
+fn encode_asked(kept: &mut Kept<'_>, slots: &[Slot], table: &mut [Option<usize>; 256]) -> Encoding
+    requires { CanRename kept.old.font.now kept.old.o.f kept.old.words.now (take 8 slots.now) }
     ensures { (Encodes
         (coded_by_lem (program_of kept.old.font.now kept.old.o.f) (kept_glyphs kept.old) (own_kept kept.old)
         (program_of kept.old.font.now kept.old.o.f).coding)
         table.new result)
-        × Stays kept.old kept.new }
+        × Stays kept.old kept.new × (length table.new ≡ 256) }
 {
     let f = kept.o.f;
     let at = f.encoding;
@@ -141,15 +141,18 @@ fn encode_asked(kept: &mut Kept<'_>, slots: &[Slot; 8], table: &mut [Option<u32>
 pub fn encode(
     kept: &mut Kept<'_>,
     ask: bool,
-    slots: &[Slot; 8],
-    table: &mut [Option<u32>; 256],
+    slots: &[Slot],
+    table: &mut [Option<usize>],
 ) -> Encoding
-    requires { CanRename kept.old.font.now kept.old.o.f kept.old.words.now slots.now }
+    requires { CanRename kept.old.font.now kept.old.o.f kept.old.words.now (take 8 slots.now) × (256 ≤ length table.old) }
     ensures { (Encodes (coded_if ask (program_of kept.old.font.now kept.old.o.f) (kept_glyphs kept.old) (own_kept kept.old)) table.new result)
         × Stays kept.old kept.new }
 {
+    let Some(first) = table.first_chunk_mut() else {
+        unreachable!()
+    };
     if ask {
-        return encode_asked(kept, slots, table);
+        return encode_asked(kept, slots, first);
     }
     Encoding::Absent
 }
@@ -178,7 +181,7 @@ pub fn encoding_at(e: Encoding, at: usize) -> usize
 }
 
 // Writes the pair of a code, if there is one.
-fn put_one(code: usize, held: Option<u32>, out: &mut Out<'_>)
+fn put_one(code: usize, held: Option<usize>, out: &mut Out<'_>)
     requires { (code < 256) × (out.old.at + length (pair_bytes (pair_in code held)) ≤ length out.old.bytes.now) }
     ensures { Writes out.old (pair_bytes (pair_in code held)) out.new }
 {
@@ -186,14 +189,14 @@ fn put_one(code: usize, held: Option<u32>, out: &mut Out<'_>)
         None => {}
         Some(id) => {
             out.byte(code as u8);
-            out.num(id as usize, 2);
+            out.num(id, 2);
         }
     }
 }
 
 // Writes all pairs of the table, codes rising.
-fn put_pairs(table: &[Option<u32>; 256], out: &mut Out<'_>)
-    requires { out.old.at + length (pair_bytes (pairs_in table.now 256 0)) ≤ length out.old.bytes.now }
+fn put_pairs(table: &[Option<usize>], out: &mut Out<'_>)
+    requires { (length table.now ≡ 256) × (out.old.at + length (pair_bytes (pairs_in table.now 256 0)) ≤ length out.old.bytes.now) }
     ensures { Writes out.old (pair_bytes (pairs_in table.now 256 0)) out.new }
 {
     for (code, &held) in table.iter().enumerate() {
@@ -202,9 +205,9 @@ fn put_pairs(table: &[Option<u32>; 256], out: &mut Out<'_>)
 }
 
 // Writes the encoding. Nothing is written for the predefined ones.
-pub fn put_encoding(e: Encoding, table: &[Option<u32>; 256], out: &mut Out<'_>)
+pub fn put_encoding(e: Encoding, table: &[Option<usize>], out: &mut Out<'_>)
     requires { Encodes (coded_in e table.now) table.now e × (pairs_of e ≤ 255)
-        × (out.old.at + length (coded_bytes (coded_in e table.now)) ≤ length out.old.bytes.now) }
+        × (out.old.at + length (coded_bytes (coded_in e table.now)) ≤ length out.old.bytes.now) × (256 ≤ length table.now) }
     ensures { Writes out.old (coded_bytes (coded_in e table.now)) out.new }
 {
     match e {
@@ -213,7 +216,7 @@ pub fn put_encoding(e: Encoding, table: &[Option<u32>; 256], out: &mut Out<'_>)
         Encoding::Pairs(n) => {
             out.pair(0x80, 0);
             out.byte(n as u8);
-            put_pairs(table, out);
+            put_pairs(&table[..256], out);
         }
     }
 }

@@ -2,7 +2,7 @@
 // strings measured and written.
 #![tactic(auto)]
 
-ghost use Rattle.std.specs.Prelude.{◌≡◌, true, false, [], ◌∷◌, ◌++◌, ◌+◌, ◌≤◌, ◌<◌, length};
+ghost use Rattle.std.specs.Prelude.{◌≡◌, true, false, [], ◌∷◌, ◌++◌, ◌+◌, ◌≤◌, ◌<◌, length, take};
 ghost use Rattle.octets.specs.Out.{Writes};
 ghost use Rattle.index.specs.Write.{index_bytes};
 ghost use Rattle.cff.specs.Loaded.{program};
@@ -24,11 +24,11 @@ use top_dict::offsets::{CidOffsets, NamedOffsets};
 use top_dict::top::Top;
 use top_dict::{put_cid_index, put_named_index, top_len};
 
-// The string ids of the top DICT given new ones, by the keying of the subset: slots; the own strings so far.
-fn prepare_slots(font: &Loaded<'_>, cid: bool, slots: &mut [Slot; 8]) -> Own
-    requires { length font.now.bytes.now ≤ 67108864 }
-    ensures { (SlotsReady (program font.now) cid slots.new)
-        × (result ≡ own_of (slots_own (program font.now).strings slots.new)) }
+// The string ids of the top DICT given new ones, by the keying of the subset: eight slots; the own strings so far.
+fn prepare_slots(font: &Loaded<'_>, cid: bool, slots: &mut [Slot]) -> Own
+    requires { (length font.now.bytes.now ≤ 67108864) × (8 ≤ length slots.old) }
+    ensures { (SlotsReady (program font.now) cid (take 8 slots.new))
+        × (result ≡ own_of (slots_own (program font.now).strings (take 8 slots.new))) }
 {
     let top = font.f.top;
     let end = font.f.top_end;
@@ -36,11 +36,11 @@ fn prepare_slots(font: &Loaded<'_>, cid: bool, slots: &mut [Slot; 8]) -> Own
     put_slot_ids(&font.strings(), slots)
 }
 
-// The string ids of the top DICT given new ones: slots; the own strings of a name-keyed subset, those of the names of the kept glyphs among them.
-pub fn prepare_named(kept: &mut Kept<'_>, slots: &mut [Slot; 8]) -> Own
-    requires { (length kept.old.font.now ≤ 67108864) × (NamesApart kept.old.font.now kept.old.o.f kept.old.words.now) }
+// The string ids of the top DICT given new ones: eight slots; the own strings of a name-keyed subset, those of the names of the kept glyphs among them.
+pub fn prepare_named(kept: &mut Kept<'_>, slots: &mut [Slot]) -> Own
+    requires { (length kept.old.font.now ≤ 67108864) × (NamesApart kept.old.font.now kept.old.o.f kept.old.words.now) × (8 ≤ length slots.old) }
     ensures { (Measured (own_by_name (kept_program kept.old) (kept_glyphs kept.old)) result)
-        × (SlotsReady (kept_program kept.old) false slots.new) × (Stays kept.old kept.new) }
+        × (SlotsReady (kept_program kept.old) false (take 8 slots.new)) × (Stays kept.old kept.new) }
 {
     let font = Loaded {
         bytes: kept.font,
@@ -50,11 +50,11 @@ pub fn prepare_named(kept: &mut Kept<'_>, slots: &mut [Slot; 8]) -> Own
     count_names(kept, &*slots, own)
 }
 
-// The string ids of the top DICT given new ones: slots; the own strings of a CID-keyed subset.
-pub fn prepare_cid(font: &Loaded<'_>, slots: &mut [Slot; 8]) -> Own
-    requires { length font.now.bytes.now ≤ 67108864 }
+// The string ids of the top DICT given new ones: eight slots; the own strings of a CID-keyed subset.
+pub fn prepare_cid(font: &Loaded<'_>, slots: &mut [Slot]) -> Own
+    requires { (length font.now.bytes.now ≤ 67108864) × (8 ≤ length slots.old) }
     ensures { (Measured (own_by_cid (program font.now)) result)
-        × (SlotsReady (program font.now) true slots.new) }
+        × (SlotsReady (program font.now) true (take 8 slots.new)) }
 {
     prepare_slots(font, true, slots)
 }
@@ -65,12 +65,12 @@ pub fn front_len(
     v: usize,
     font: &Loaded<'_>,
     name: usize,
-    slots: &[Slot; 8],
+    slots: &[Slot],
     own: Own,
 ) -> usize
-    requires { (length font.now.bytes.now ≤ 67108864) × (SlotsReady (program font.now) cid slots.now) × (name ≤ 65535)
+    requires { (length font.now.bytes.now ≤ 67108864) × (SlotsReady (program font.now) cid (take 8 slots.now)) × (name ≤ 65535)
         × (own.count ≤ 65544) × (own.total ≤ 4398583382016) }
-    ensures { (result ≡ front_len cid v (program font.now).top slots.now name own) × (result ≤ 844424931000004) }
+    ensures { (result ≡ front_len cid v (program font.now).top (take 8 slots.now) name own) × (result ≤ 844424931000004) }
 {
     let start = font.f.top;
     let end = font.f.top_end;
@@ -107,12 +107,12 @@ pub struct NamedPlaces {
 pub fn put_front_named(
     kept: &mut Kept<'_>,
     name: &[u8],
-    slots: &[Slot; 8],
+    slots: &[Slot],
     own: Own,
     at: NamedPlaces,
     out: &mut Out<'_>,
 )
-    requires { (NamedFront kept.old.font.now kept.old.o.f at.encoding slots.now own kept.old.words.now (length name.now) (length out.old.bytes.now))
+    requires { (NamedFront kept.old.font.now kept.old.o.f at.encoding (take 8 slots.now) own kept.old.words.now (length name.now) (length out.old.bytes.now))
         × (Offsets at.charset at.charstrings at.size at.private) × (at.encoding < 2147483648) × (out.old.at ≡ 0) }
     ensures { (Writes out.old
         (front_bytes at.end name.now
@@ -152,12 +152,12 @@ pub struct CidPlaces {
 pub fn put_front_cid(
     font: &Loaded<'_>,
     name: &[u8],
-    slots: &[Slot; 8],
+    slots: &[Slot],
     own: Own,
     at: CidPlaces,
     out: &mut Out<'_>,
 )
-    requires { (CidFront font.now.bytes.now font.now.f slots.now own (length name.now) (length out.old.bytes.now)) × (Offsets at.charset at.select at.glyphs at.dicts)
+    requires { (CidFront font.now.bytes.now font.now.f (take 8 slots.now) own (length name.now) (length out.old.bytes.now)) × (Offsets at.charset at.select at.glyphs at.dicts)
         × (out.old.at ≡ 0) }
     ensures { Writes out.old
         (front_bytes at.end name.now

@@ -22,9 +22,9 @@ abbrev pub new_names : List ℕ → Font → List ℕ → List Slot → List ℕ
 new_names b f ws slots =
     new_ids (all_own (items_of b f.strings) slots (order_in b f ws)) (word_names (items_of b f.strings) (order_in b f ws))
 
--- the own strings of slots
+-- the own strings of eight slots
 abbrev pub own_in : GivenSlots → List (List ℕ)
-own_in s = slots_own (items s.strings) s.slots.now
+own_in s = slots_own (items s.strings) (take 8 s.slots.now)
 
 -- the same of kept glyphs: the strings of their font, and the new ids of their names
 abbrev pub strings_of : Kept → List (List ℕ)

@@ -4,7 +4,7 @@
 
 pub mod slots;
 
-ghost use Rattle.std.specs.Prelude.{◌≡◌, ◌+◌, ◌≤◌, length};
+ghost use Rattle.std.specs.Prelude.{◌≡◌, ◌+◌, ◌≤◌, length, take};
 ghost use Rattle.octets.specs.Out.{Writes};
 ghost use Rattle.index.specs.Items.{items};
 ghost use Rattle.index.specs.Write.{index_bytes};
@@ -41,7 +41,7 @@ pub fn slots_own(slots: &GivenSlots<'_, '_>) -> Own
         match slot.sid {
             None => {}
             Some(sid) => {
-                own = own_strings::count_one(&slots.strings, own, sid, slot.id as usize);
+                own = own_strings::count_one(&slots.strings, own, sid, slot.id);
             }
         }
     }
@@ -49,9 +49,9 @@ pub fn slots_own(slots: &GivenSlots<'_, '_>) -> Own
 }
 
 // The own strings of a name-keyed subset: those of the slots, and of the names of the kept glyphs.
-pub fn count_names(kept: &mut Kept<'_>, slots: &[Slot; 8], own: Own) -> Own
-    requires { (NamesReady kept.old slots.now) × (own ≡ own_of (slots_own (strings_of kept.old) slots.now)) }
-    ensures { (result ≡ own_of (all_own (strings_of kept.old) slots.now (order_of kept.old)))
+pub fn count_names(kept: &mut Kept<'_>, slots: &[Slot], own: Own) -> Own
+    requires { (NamesReady kept.old (take 8 slots.now)) × (own ≡ own_of (slots_own (strings_of kept.old) (take 8 slots.now))) }
+    ensures { (result ≡ own_of (all_own (strings_of kept.old) (take 8 slots.now) (order_of kept.old)))
         × (result.count ≤ 65544) × (result.total ≤ 4398583382016) × (Stays kept.old kept.new) }
 {
     let font = kept.font;
@@ -62,7 +62,7 @@ pub fn count_names(kept: &mut Kept<'_>, slots: &[Slot; 8], own: Own) -> Own
     let mut all = own;
     for i in 0..kept.o.count {
         let x = kept.word(i) / 65536;
-        let id = own_strings::given_id(&strings, slots, all.count, Some(x));
+        let id = own_strings::given_id(&strings, &slots[..8], all.count, Some(x));
         all = own_strings::count_one(&strings, all, x, id);
     }
     all
@@ -70,7 +70,7 @@ pub fn count_names(kept: &mut Kept<'_>, slots: &[Slot; 8], own: Own) -> Own
 
 // Begins the String INDEX of a subset: its head, for all own strings, and the strings of the slots.
 fn begin_strings(slots: &GivenSlots<'_, '_>, own: Own, out: &mut Out<'_>) -> Started
-    requires { StringsRoom (items slots.now.strings) slots.now.slots.now out.old.bytes.now out.old.at own }
+    requires { StringsRoom (items slots.now.strings) (take 8 slots.now.slots.now) out.old.bytes.now out.old.at own }
     ensures { StringsBegun out.old own (own_in slots.now) out.new result }
 {
     let count = own.count;
@@ -84,7 +84,7 @@ fn begin_strings(slots: &GivenSlots<'_, '_>, own: Own, out: &mut Out<'_>) -> Sta
         match slot.sid {
             None => {}
             Some(sid) => {
-                if slot.id as usize == 391 + c {
+                if slot.id == 391 + c {
                     let text = find::own_text(&slots.strings, sid);
                     index::put_item(&mut *out, ix, c, text);
                     c += 1;
@@ -96,10 +96,10 @@ fn begin_strings(slots: &GivenSlots<'_, '_>, own: Own, out: &mut Out<'_>) -> Sta
 }
 
 // Writes the String INDEX of a name-keyed subset.
-pub fn put_strings(kept: &mut Kept<'_>, slots: &[Slot; 8], own: Own, out: &mut Out<'_>)
-    requires { (NamesReady kept.old slots.now)
-        × (IndexRoom out.old.bytes.now out.old.at (all_own (strings_of kept.old) slots.now (order_of kept.old)) own) }
-    ensures { (Writes out.old (index_bytes (all_own (strings_of kept.old) slots.now (order_of kept.old))) out.new)
+pub fn put_strings(kept: &mut Kept<'_>, slots: &[Slot], own: Own, out: &mut Out<'_>)
+    requires { (NamesReady kept.old (take 8 slots.now))
+        × (IndexRoom out.old.bytes.now out.old.at (all_own (strings_of kept.old) (take 8 slots.now) (order_of kept.old)) own) }
+    ensures { (Writes out.old (index_bytes (all_own (strings_of kept.old) (take 8 slots.now) (order_of kept.old))) out.new)
         × (Stays kept.old kept.new) }
 {
     let font = kept.font;
@@ -113,7 +113,7 @@ pub fn put_strings(kept: &mut Kept<'_>, slots: &[Slot; 8], own: Own, out: &mut O
     let mut c = begun.count;
     for i in 0..kept.o.count {
         let sid = kept.word(i) / 65536;
-        let id = own_strings::given_id(&strings, slots, c, Some(sid));
+        let id = own_strings::given_id(&strings, &slots[..8], c, Some(sid));
         if id == 391 + c {
             let text = find::own_text(&strings, sid);
             index::put_item(&mut *out, ix, c, text);
@@ -131,9 +131,10 @@ pub fn put_slot_strings(slots: &GivenSlots<'_, '_>, own: Own, out: &mut Out<'_>)
 }
 
 // Writes the charset of a name-keyed subset, by the new ids of the names.
-pub fn put_charset_named(kept: &mut Kept<'_>, slots: &[Slot; 8], out: &mut Out<'_>)
-    requires { (NamesReady kept.old slots.now) × (out.old.at + length (charset_bytes (names_for kept.old slots.now)) ≤ length out.old.bytes.now) }
-    ensures { (Writes out.old (charset_bytes (names_for kept.old slots.now)) out.new) × (Stays kept.old kept.new) }
+pub fn put_charset_named(kept: &mut Kept<'_>, slots: &[Slot], out: &mut Out<'_>)
+    requires { (NamesReady kept.old (take 8 slots.now))
+        × (out.old.at + length (charset_bytes (names_for kept.old (take 8 slots.now))) ≤ length out.old.bytes.now) }
+    ensures { (Writes out.old (charset_bytes (names_for kept.old (take 8 slots.now))) out.new) × (Stays kept.old kept.new) }
 {
     let font = kept.font;
     let strings = Items {
@@ -145,7 +146,7 @@ pub fn put_charset_named(kept: &mut Kept<'_>, slots: &[Slot; 8], out: &mut Out<'
     let mut own = slots_own(&given);
     for i in 0..kept.o.count {
         let x = kept.word(i) / 65536;
-        let id = own_strings::given_id(&strings, slots, own.count, Some(x));
+        let id = own_strings::given_id(&strings, &slots[..8], own.count, Some(x));
         own = own_strings::count_one(&strings, own, x, id);
         if 0 < i {
             out.num(id, 2);

@@ -1,5 +1,5 @@
 -- The cut of a name-keyed font (document 01, 'Layout'; crates/subset, subset_by_name), over what the code holds when its bodies are planned.
-use Rattle.std.specs.Prelude.{ℕ, ◌≤◌, ◌<◌, ◌≡◌, false, List, [], ◌∷◌, ◌++◌, length, set, replicate, Option}
+use Rattle.std.specs.Prelude.{ℕ, ◌≤◌, ◌<◌, ◌≡◌, false, List, [], ◌∷◌, ◌++◌, length, set, take, replicate, Option}
 use Rattle.index.specs.Write.{index_bytes}
 use Rattle.charset.specs.CharsetBytes.{charset_bytes}
 use Rattle.unfold.specs.Unfold.{Row}
@@ -72,7 +72,7 @@ pub record NamedCodes (e : Encoding) (codes : List (Option ℕ)) : Type 0 where
 -- what a subset is written from: the bodies are planned, the strings counted, the codes few, and it is the plan's glyphs that are kept
 pub record NamedReady (b ws : List ℕ) (o : Order) (parts : Parts) (e : Encoding) (held : List (Option ℕ)) : Type 0 where
   pub plan : NamedPlan b (rows_of parts.rows.now) parts.used.now ws parts.cut.plan parts.table.now parts.totals.now
-  pub strings : NamedStrings (program_of b parts.cut.plan.order.f) (glyphs_of b parts.cut.plan.order.f ws) parts.slots.now parts.cut.own (length parts.name.now)
+  pub strings : NamedStrings (program_of b parts.cut.plan.order.f) (glyphs_of b parts.cut.plan.order.f ws) (take 8 parts.slots.now) parts.cut.own (length parts.name.now)
   pub codes : NamedCodes e held
   pub walked : Walked o parts.cut.plan.order
 

@@ -94,7 +94,7 @@ pub fn places_named(
     words: &[u32],
     parts: &Parts<'_>,
     encoding: Encoding,
-    codes: &[Option<u32>; 256],
+    codes: &[Option<usize>],
 ) -> NamedPlaces
     requires { NamedReady font.now words.now parts.now.cut.plan.order parts.now encoding codes.now }
     ensures { PlacedBy font.now words.now parts.now encoding codes.now result }

@@ -1,5 +1,5 @@
 // What the subset of a name-keyed font is written from.
-ghost use Rattle.std.specs.Prelude.{◌≡◌};
+ghost use Rattle.std.specs.Prelude.{◌≡◌, ◌≤◌, length};
 ghost use Rattle.order_window.specs.Window.{Gathered};
 ghost use Rattle.named_parts.specs.Named.{NamedReady};
 ghost use Rattle.named_parts.specs.Alone.{named_ready_prop};
@@ -14,7 +14,8 @@ pub struct NamedSubset<'a> {
     pub kept: Kept<'a>,
     pub parts: Parts<'a>,
     pub encoding: Encoding,
-    pub codes: &'a [Option<u32>; 256],
+    pub codes: &'a [Option<usize>],
+    ghost long: { 256 ≤ length codes.now },
     ghost ready: { NamedReady kept.font.now kept.words.now kept.o parts encoding codes.now } by { named_ready_prop kept.font.now kept.words.now kept.o parts encoding codes.now },
 }
 
@@ -26,9 +27,10 @@ impl<'a> NamedSubset<'a> {
         window: &'a mut [u32],
         parts: Parts<'a>,
         encoding: Encoding,
-        codes: &'a [Option<u32>; 256],
+        codes: &'a [Option<usize>],
     ) -> NamedSubset<'a>
-        requires { (Gathered font.now words.now window.old parts.cut.plan.order) × (NamedReady font.now words.now parts.cut.plan.order parts encoding codes.now) }
+        requires { (Gathered font.now words.now window.old parts.cut.plan.order) × (NamedReady font.now words.now parts.cut.plan.order parts encoding codes.now)
+            × (256 ≤ length codes.now) }
         ensures { (result.kept.font.now ≡ font.now) × (result.kept.words.now ≡ words.now) × (result.parts ≡ parts.entry) × (result.encoding ≡ encoding)
             × (result.codes.now ≡ codes.now) }
     {

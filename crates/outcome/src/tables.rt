@@ -31,12 +31,12 @@ impl Tables {
     }
 }
 
-// What is prepared, the new name, the slots of the string ids of the top DICT, the tables, and the record.
+// What is prepared, the new name, slots, of which the first eight are those of the string ids of the top DICT, the tables, and the record.
 #[derive(Clone, Copy)]
 pub struct Parts<'a> {
     pub cut: Prepared,
     pub name: &'a [u8],
-    pub slots: &'a [Slot; 8],
+    pub slots: &'a [Slot],
     pub used: &'a [u32],
     pub table: &'a [Ranks],
     pub totals: &'a [usize],

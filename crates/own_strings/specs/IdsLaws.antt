@@ -1,11 +1,11 @@
 -- Laws of the loop that gives new ids to the eight slots, and what it leaves for later functions.
-use Rattle.std.specs.Prelude.{ℕ, ◌+◌, ◌*◌, ◌<◌, ◌≤◌, ◌≡◌, take, get_or, set, Option, Some, None}
+use Rattle.std.specs.Prelude.{ℕ, ◌+◌, ◌*◌, ◌<◌, ◌≤◌, ◌≡◌, take, drop, get_or, set, Option, Some, None}
 use Rattle.std.proofs.Math.Path.{refl, sym, ap}
 use Rattle.std.proofs.Common.{◌∙◌, arith, take_all, get_or-take}
 use mathlib.Core.List.{List, []}
 use Rattle.std.proofs.Math.ListN.{length, get_or-map}
-use Rattle.std.proofs.Math.Seq.{length-take-le, map-set_same}
-use Rattle.std.proofs.lemmas.List.{map-set, take-map}
+use Rattle.std.proofs.Math.Seq.{length-take-le, map-set_same, take-set-lt}
+use Rattle.std.proofs.lemmas.List.{drop-set-lt, length-set, length-take, map-set, take-map, take-take}
 use Rattle.index.specs.Index.{items_of}
 use Rattle.index.specs.Write.{total}
 use Rattle.index.specs.declared.Index.{Index}
@@ -157,12 +157,78 @@ module _ (b : List ℕ) (ix : Index) (has : HasStrings b ix) (old : List Slot) (
             by None e = omega (arith, none_id e)
             by (Some y) e = some_small y e
 
+-- ---- the first eight of more slots
+
+-- before slot j: the same of the first eight; what is behind them is as it was
+pub record IdsPut (strings : List (List ℕ)) (old now : List Slot) (own : Own) (j : ℕ) : Type 0 where
+  pub turn : SlotTurn strings (take 8 old) (take 8 now) own j
+  pub long : 8 ≤ length now
+  pub same : sids_of now ≡ sids_of old
+  pub rest : drop 8 now ≡ drop 8 old
+
+module _ (b : List ℕ) (ix : Index) (has : HasStrings b ix) (old : List Slot) (size : 8 ≤ length old) where
+  abbrev T : List (List ℕ)
+  T = items_of b ix
+
+  first : length (take 8 old) ≡ 8
+  first = length-take-le 8 old size
+
+  pub ids-start : IdsPut T old old (record { count = 0; total = 0 }) 0
+  ids-start = record { turn = slot-start b ix has (take 8 old) first; long = size; same = refl; rest = refl }
+
+  module _ (now : List Slot) (own : Own) (j : ℕ) (p : IdsPut T old now own j) where
+    pub ids-bound : (own.count ≤ 8) × (own.total ≤ 536870912)
+    ids-bound = slot-bound b ix has (take 8 old) first (take 8 now) own j p.turn
+
+    pub ids_end : 8 ≤ j
+        → (sids_of now ≡ sids_of old) × (ids_of (take 8 now) ≡ slot_ids (slots_own T (take 8 old)) T (sids_of (take 8 old)))
+        × (drop 8 now ≡ drop 8 old) × (own ≡ own_of (slots_own T (take 8 old)))
+    ids_end h = let e = slot_end b ix has (take 8 old) first (take 8 now) own j p.turn h in (p.same, e.1, p.rest, e.2)
+
+    module _ (h : j < 8) (o : Option ℕ) (reads : (get_or now j no_slot).sid ≡ o) (before : List Slot) (cut : before ≡ take j now) (id : ℕ)
+        (gives : id ≡ given_id T (sids_of before) (ids_of before) own.count o) where
+      here_first : (get_or (take 8 now) j no_slot).sid ≡ o
+      here_first = ap (λ (s : Slot). s.sid) (get_or-take 8 now j no_slot h) ∙ reads
+
+      cut_first : before ≡ take j (take 8 now)
+      cut_first = cut ∙ sym (take-take j 8 now (omega arith))
+
+      put : (s : Slot) → s.sid ≡ o → (after : Own) → SlotTurn T (take 8 old) (set (take 8 now) j s) after (j + 1) → IdsPut T old (set now j s) after (j + 1)
+      put s e after t =
+          record {
+            turn = rw (take-set-lt 8 now j s h) t;
+            long = omega (arith, length-set now j s, p.long);
+            same = map-set_same (λ (x : Slot). x.sid) now j s no_slot (e ∙ sym reads) ∙ p.same;
+            rest = drop-set-lt 8 now j s h ∙ p.rest;
+          }
+
+      pub ids-none : o ≡ None → IdsPut T old (set now j (record { sid = o; id = id })) own (j + 1)
+      ids-none e =
+          put (record { sid = o; id = id }) refl own
+          (slot_none b ix has (take 8 old) first (take 8 now) own j p.turn h o here_first before cut_first id gives e)
+
+      pub ids-turn : (y : ℕ) → o ≡ Some y → (after : Own) → after ≡ counted T own y id → IdsPut T old (set now j (record { sid = o; id = id })) after (j + 1)
+      ids-turn y e after c =
+          put (record { sid = o; id = id }) refl after
+          (slot_turn b ix has (take 8 old) first (take 8 now) own j p.turn h o here_first before cut_first id gives y e after c)
+
 -- what stands then
 pub slots-given : (strings : List (List ℕ)) (old now : List Slot) → length old ≡ 8 → sids_of now ≡ sids_of old → ids_of now ≡ slot_ids (slots_own strings old) strings (sids_of old)
     → SlotsGiven strings now × (slots_own strings now ≡ slots_own strings old)
 slots-given strings old now size same e =
     let s : slots_own strings now ≡ slots_own strings old = ap (λ (x : List (Option ℕ)). own_strings_lem [] (slot_texts strings x)) same in
     (record { eight = sym (sids-length now) ∙ ap length same ∙ sids-length old ∙ size; ids = e ∙ rw (s, same) refl }, s)
+
+-- they are the first eight of a slice that has as many
+pub given-long : (strings : List (List ℕ)) (slots : List Slot) → SlotsGiven strings (take 8 slots) → 8 ≤ length slots
+given-long strings slots g = omega (arith, length-take 8 slots, g.eight)
+
+-- a slot among the first eight of a slice
+pub sid_first : (slots : List Slot) (j : ℕ) → j < 8 → (o : Option ℕ) → (get_or slots j no_slot).sid ≡ o → (get_or (take 8 slots) j no_slot).sid ≡ o
+sid_first slots j h o e = ap (λ (s : Slot). s.sid) (get_or-take 8 slots j no_slot h) ∙ e
+
+pub id_first : (slots : List Slot) (j : ℕ) → j < 8 → (get_or (take 8 slots) j no_slot).id ≡ (get_or slots j no_slot).id
+id_first slots j h = ap (λ (s : Slot). s.id) (get_or-take 8 slots j no_slot h)
 
 -- the ids that slots were given, all own strings being there
 pub slots-known : (strings : List (List ℕ)) (slots : List Slot) → SlotsGiven strings slots → (ts : List (List ℕ)) (i : ℕ) → i < 8

@@ -1,12 +1,12 @@
 -- Laws for one string id at a time: the text of an id, the slot that has a text, the id that a slot is given and what is counted.
-use Rattle.std.specs.Prelude.{ℕ, zero, suc, ◌+◌, ◌-◌, ◌<◌, ◌≤◌, ◌≡◌, refl, Bool, true, false, cond, ltb, take, get_or, set, position, None, Option, Some}
+use Rattle.std.specs.Prelude.{ℕ, zero, suc, ◌+◌, ◌-◌, ◌<◌, ◌≤◌, ◌≡◌, refl, Bool, true, false, cond, ltb, take, drop, get_or, set, position, None, Option, Some}
 use Rattle.std.proofs.Math.Path.{sym, ap}
 use Rattle.std.proofs.Common.{◌∙◌, arith, take_all}
 use mathlib.Core.List.{List, [], ◌∷◌, ◌++◌}
 use borrow.Author.Tests.{ltb-true, ltb-false, lt-ltb, le-ltb, eq-eqb, ne_eqb}
 use Rattle.std.proofs.Math.ListN.{length, length-append, get_or-map}
-use Rattle.std.proofs.Math.Seq.{get_or-append-add}
-use Rattle.std.proofs.lemmas.List.{length-map, map-set, take_more, take_more_set}
+use Rattle.std.proofs.Math.Seq.{get_or-append-add, length-take-le, map-set_same, take-set-lt}
+use Rattle.std.proofs.lemmas.List.{drop-set-lt, length-map, length-set, map-set, take_more, take_more_set}
 use Rattle.std.specs.List.{position_from}
 use Rattle.std.proofs.lemmas.Iterator.Adapters.{position_from-zero}
 use Rattle.index.specs.Index.{items_of}
@@ -112,14 +112,43 @@ ids_count slots = length-map slots (λ (s : Slot). s.id)
 
 -- the slots so far
 pub slots-next : (cid : Bool) (es : List Entry) (slots : List Slot) (j : ℕ) → j < length slots → j < 8 → take j (sids_of slots) ≡ take j (slots_of cid es)
-    → (sid : Option ℕ) → sid ≡ get_or (slots_of cid es) j None → take (j + 1) (sids_of (set slots j (record { sid = sid; id = 0 }))) ≡ take (j + 1) (slots_of cid es)
-slots-next cid es slots j h k e sid is =
-    ap (take (j + 1)) (map-set (λ (s : Slot). s.sid) slots j (record { sid = sid; id = 0 }))
+    → (sid : Option ℕ) (id : ℕ) → sid ≡ get_or (slots_of cid es) j None → take (j + 1) (sids_of (set slots j (record { sid = sid; id = id }))) ≡ take (j + 1) (slots_of cid es)
+slots-next cid es slots j h k e sid id is =
+    ap (take (j + 1)) (map-set (λ (s : Slot). s.sid) slots j (record { sid = sid; id = id }))
     ∙ turn-set (sids_of slots) (slots_of cid es) j sid None (omega (arith, sids-length slots)) (omega (arith, slots_eight cid es)) e is
 
 pub slots-all : (cid : Bool) (es : List Entry) (slots : List Slot) (j : ℕ) → length slots ≡ 8 → 8 ≤ j → take j (sids_of slots) ≡ take j (slots_of cid es) → sids_of slots ≡ slots_of cid es
 slots-all cid es slots j n h e =
     sym (take_all j (sids_of slots) (omega (arith, sids-length slots))) ∙ e ∙ take_all j (slots_of cid es) (omega (arith, slots_eight cid es))
+
+-- before slot j: those before it have their string ids; the new ids and what is behind the eighth slot are as they were
+pub record SlotsPut (named : List (Option ℕ)) (old now : List Slot) (j : ℕ) : Type 0 where
+  pub long : 8 ≤ length now
+  pub front : take j (sids_of (take 8 now)) ≡ take j named
+  pub ids : ids_of now ≡ ids_of old
+  pub rest : drop 8 now ≡ drop 8 old
+
+pub put-start : (named : List (Option ℕ)) (slots : List Slot) → 8 ≤ length slots → SlotsPut named slots slots 0
+put-start named slots h = record { long = h; front = refl; ids = refl; rest = refl }
+
+module _ (cid : Bool) (es : List Entry) (old now : List Slot) (j : ℕ) (p : SlotsPut (slots_of cid es) old now j) where
+  pub put-next : j < 8 → (sid : Option ℕ) → sid ≡ get_or (slots_of cid es) j None
+      → SlotsPut (slots_of cid es) old (set now j (record { sid = sid; id = (get_or now j no_slot).id })) (j + 1)
+  put-next h sid is = put (record { sid = sid; id = (get_or now j no_slot).id }) refl refl
+    where
+      put : (s : Slot) → s.sid ≡ sid → s.id ≡ (get_or now j no_slot).id → SlotsPut (slots_of cid es) old (set now j s) (j + 1)
+      put s e i =
+          record {
+            long = omega (arith, length-set now j s, p.long);
+            front =
+                ap (λ (l : List Slot). take (j + 1) (sids_of l)) (take-set-lt 8 now j s h)
+                ∙ slots-next cid es (take 8 now) j (omega (arith, length-take-le 8 now p.long)) h p.front s.sid s.id (e ∙ is);
+            ids = map-set_same (λ (x : Slot). x.id) now j s no_slot i ∙ p.ids;
+            rest = drop-set-lt 8 now j s h ∙ p.rest;
+          }
+
+  pub put-all : 8 ≤ j → (sids_of (take 8 now) ≡ slots_of cid es) × (ids_of now ≡ ids_of old) × (drop 8 now ≡ drop 8 old)
+  put-all h = (slots-all cid es (take 8 now) j (length-take-le 8 now p.long) h p.front, p.ids, p.rest)
 
 -- ---- texts
 

@@ -4,7 +4,7 @@
 
 pub mod slots;
 
-ghost use Rattle.std.specs.Prelude.{◌≡◌, ◌≤◌, ◌<◌, length, get_or, None};
+ghost use Rattle.std.specs.Prelude.{◌≡◌, ◌≤◌, ◌<◌, length, take, drop, get_or, None};
 ghost use Rattle.index.specs.Items.{items};
 ghost use Rattle.dict.specs.Places.{entries_of};
 ghost use Rattle.dict.specs.Held.{entries};
@@ -44,16 +44,15 @@ fn named_sid(d: &Dict<'_>, cid: bool, j: usize) -> Option<usize>
     }
 }
 
-// Puts the slots of a top DICT, refused or not, without new ids.
-pub fn put_slots(d: &[u8], cid: bool, slots: &mut [Slot; 8])
-    ensures { sids_of slots.new ≡ slots_of cid (entries_of d.now) }
+// Puts the string ids of a top DICT, refused or not, into eight slots. Their new ids and what is behind them stay.
+pub fn put_slots(d: &[u8], cid: bool, slots: &mut [Slot])
+    requires { 8 ≤ length slots.old }
+    ensures { (sids_of (take 8 slots.new) ≡ slots_of cid (entries_of d.now)) × (ids_of slots.new ≡ ids_of slots.old)
+        × (drop 8 slots.new ≡ drop 8 slots.old) }
 {
     let (top, _) = dict::read_top(d);
     for j in 0..8 {
-        slots[j] = Slot {
-            sid: named_sid(&top, cid, j),
-            id: 0,
-        };
+        slots[j].sid = named_sid(&top, cid, j);
     }
 }
 
@@ -93,7 +92,7 @@ pub fn given_id(strings: &Items<'_>, slots: &[Slot], count: usize, sid: Option<u
     match strings::sid_of(text) {
         Some(k) => k,
         None => match slot_with(strings, text, slots) {
-            Some(j) => slots[j].id as usize,
+            Some(j) => slots[j].id,
             None => 391 + count,
         },
     }
@@ -119,12 +118,13 @@ pub fn count_one(strings: &Items<'_>, own: Own, x: usize, id: usize) -> Own
     }
 }
 
-// Puts the new ids of eight slots; the own strings so far.
-pub fn put_slot_ids(strings: &Items<'_>, slots: &mut [Slot; 8]) -> Own
-    requires { length strings.now.bytes.now ≤ 67108864 }
+// Puts the new ids of eight slots; the own strings so far. What is behind them stays.
+pub fn put_slot_ids(strings: &Items<'_>, slots: &mut [Slot]) -> Own
+    requires { (length strings.now.bytes.now ≤ 67108864) × (8 ≤ length slots.old) }
     ensures { (sids_of slots.new ≡ sids_of slots.old)
-        × (ids_of slots.new ≡ slot_ids (slots_own (items strings.now) slots.old) (items strings.now) (sids_of slots.old))
-        × (result ≡ own_of (slots_own (items strings.now) slots.old)) }
+        × (ids_of (take 8 slots.new) ≡ slot_ids (slots_own (items strings.now) (take 8 slots.old)) (items strings.now) (sids_of (take 8 slots.old)))
+        × (drop 8 slots.new ≡ drop 8 slots.old)
+        × (result ≡ own_of (slots_own (items strings.now) (take 8 slots.old))) }
 {
     let mut own = Own { count: 0, total: 0 };
     for j in 0..8 {
@@ -133,7 +133,7 @@ pub fn put_slot_ids(strings: &Items<'_>, slots: &mut [Slot; 8]) -> Own
         if let Some(x) = sid {
             own = count_one(strings, own, x, id);
         }
-        slots[j] = Slot { sid, id: id as u16 };
+        slots[j] = Slot { sid, id };
     }
     own
 }

@@ -4,7 +4,7 @@
 #[derive(Clone, Copy)]
 pub struct Slot {
     pub sid: Option<usize>,
-    pub id: u16,
+    pub id: usize,
 }
 
 // A slot of no string.

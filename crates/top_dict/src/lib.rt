@@ -15,7 +15,7 @@ ghost use Rattle.dict.specs.Held.{entries};
 ghost use Rattle.index.specs.Write.{index_bytes};
 ghost use Rattle.subset.specs.Codes.{encoding_entry};
 ghost use Rattle.subset.specs.Subset.{copied_bytes};
-ghost use Rattle.top_dict.specs.Top.{value_entry, slot_entry, string_entries, ids_bytes, ros_of, carried, code_offsets, named_offsets, glyph_offsets, cid_offsets, top_named, cid_front, top_cid, encoding_len, top_len, single_head};
+ghost use Rattle.top_dict.specs.Top.{Filled, value_entry, slot_entry, string_entries, ids_bytes, ros_of, carried, code_offsets, named_offsets, glyph_offsets, cid_offsets, top_named, cid_front, top_cid, encoding_len, top_len, single_head};
 
 use crate::offsets::{CidOffsets, NamedOffsets};
 use crate::top::Top;
@@ -46,18 +46,18 @@ fn value<S: Sink>(op: usize, n: usize, to: &mut S)
 
 // The string entry of slot j, where there is one.
 fn slot<S: Sink>(slots: &[Slot; 8], j: usize, op: usize, to: &mut S)
-    requires { (j < 8) × S.allows op × S.room to.old (slot_entry slots.now j op) }
+    requires { (j < 8) × S.allows op × S.room to.old (slot_entry slots.now j op) × Filled slots.now }
     ensures { S.takes to.old (slot_entry slots.now j op) to.new }
 {
     match slots[j].sid {
         None => {}
-        Some(_) => value(op, slots[j].id as usize, to),
+        Some(_) => value(op, slots[j].id, to),
     }
 }
 
 // The six string entries.
 fn strings<S: Sink>(slots: &[Slot; 8], to: &mut S)
-    requires { S.room to.old (string_entries slots.now) }
+    requires { S.room to.old (string_entries slots.now) × Filled slots.now }
     ensures { S.takes to.old (string_entries slots.now) to.new }
 {
     for k in 0..6 {
@@ -86,11 +86,11 @@ fn carried<S: Sink>(top: &Top<'_>, to: &mut S)
 
 // The new ids of registry and ordering.
 fn ros_ids<S: Sink>(slots: &[Slot; 8], to: &mut S)
-    requires { S.room to.old (ids_bytes slots.now) }
+    requires { S.room to.old (ids_bytes slots.now) × Filled slots.now }
     ensures { S.takes to.old (ids_bytes slots.now) to.new }
 {
-    let registry = slots[0].id as usize;
-    let ordering = slots[1].id as usize;
+    let registry = slots[0].id;
+    let ordering = slots[1].id;
     integer(false, registry, &mut *to);
     integer(false, ordering, to);
 }

@@ -17,14 +17,17 @@ pub struct Top<'a> {
 }
 
 impl<'a> Top<'a> {
-    ghost use Rattle.std.specs.Prelude.{◌≡◌};
+    ghost use Rattle.std.specs.Prelude.{◌≡◌, take};
 
-    // Its entries are found by one pass.
-    pub fn read(d: &'a [u8], slots: &'a [Slot; 8]) -> Top<'a>
-        requires { (length d.now ≤ 67108864) × (Filled slots.now) }
-        ensures { (result.dict.bytes.now ≡ d.now) × (result.slots.now ≡ slots.now) }
+    // Its entries are found by one pass. The slots are the first eight.
+    pub fn read(d: &'a [u8], slots: &'a [Slot]) -> Top<'a>
+        requires { (length d.now ≤ 67108864) × (8 ≤ length slots.now) × (Filled (take 8 slots.now)) }
+        ensures { (result.dict.bytes.now ≡ d.now) × (result.slots.now ≡ take 8 slots.now) }
     {
         let (dict, _) = dict::read_top(d);
+        let Some(slots) = slots.first_chunk() else {
+            unreachable!()
+        };
         Top { dict, slots }
     }
 }

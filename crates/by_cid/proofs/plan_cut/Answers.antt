@@ -11,7 +11,7 @@ use Rattle.by_cid.proofs.plan_cut.Goals as goal
 pub plan_all-plan-requires : goal.plan_all-plan-requires
 plan_all-plan-requires c =
     let a = c.args in
-    let h = c.requires in
+    let h = c.requires.0 in
     let k = c.rank_fds-count.ensures in
     let s = k.2.same in
     let w : c.window-1.given.0 ≡ c.rank_fds-count.new.kept.window.now = search (rules, s) in
@@ -26,5 +26,5 @@ returns c =
     let a = c.args in
     let k = c.rank_fds-count.ensures in
     let p = c.plan_all-plan.ensures in
-    all_prepared a.font.now a.asked.now.rows.now (flag_of a.asked.now.traced) a.o a.words.now _ c.requires _ _ c.prepare_cid-own.ensures.0 c.prepare_cid-own.ensures.1 _ (table-room _ refl) _ k.0 _ k.1
+    all_prepared a.font.now a.asked.now.rows.now (flag_of a.asked.now.traced) a.o a.words.now _ c.requires.0 _ _ c.prepare_cid-own.ensures.0 c.prepare_cid-own.ensures.1 _ (table-room _ refl) _ k.0 _ k.1
     c.rank_fds-count.new.kept.o k.2.f k.2.count _ _ p.3 p.4 p.5 _ p.0 p.1 p.2 p.6

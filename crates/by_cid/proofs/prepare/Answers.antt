@@ -17,9 +17,11 @@ gather-o-requires c =
 
 pub plan_cut-cut-requires : goal.plan_cut-cut-requires
 plan_cut-cut-requires c =
-    let a = c.args in
-    gathered-asked a.font.now.loaded.bytes.now a.asked.now.rows.now a.asked.now.name.now (flag_of a.asked.now.traced) a.font.now.loaded.f a.font.now.held c.requires.0.keying _ c.gather-o.ensures.1 a.words.now _ _
-    c.requires.0.room c.gather-o.auto.words c.gather-o.ensures.0
+    let a = c.args in (
+      gathered-asked a.font.now.loaded.bytes.now a.asked.now.rows.now a.asked.now.name.now (flag_of a.asked.now.traced) a.font.now.loaded.f a.font.now.held c.requires.0.keying _ c.gather-o.ensures.1 a.words.now _ _
+          c.requires.0.room c.gather-o.auto.words c.gather-o.ensures.0,
+      c.requires.2,
+    )
 
 pub new-requires : goal.new-requires
 new-requires c =

@@ -1,5 +1,5 @@
 -- `by_name::cut_named` meets its contract: what is prepared is cut, or the cut is refused.
-use Rattle.std.proofs.Common.{arith, length, subst, Result, ◌<◌}
+use Rattle.std.proofs.Common.{arith, length, subst, Result, ◌<◌, ◌≤◌}
 use Rattle.cff.specs.Loaded.{program}
 use Rattle.subset.specs.Flag.{flag_of}
 use Rattle.outcome.specs.Entry.{cut_behind, Cut}
@@ -12,7 +12,9 @@ use Rattle.by_name.proofs.cut_named.Goals as goal
 pub prepare-requires : goal.prepare-requires
 prepare-requires c =
     let h : 0 < 4096 = omega arith in
-    (c.requires, h)
+    let s : 8 ≤ 8 = omega arith in
+    let k : 256 ≤ 256 = omega arith in
+    (c.requires, h, s, k)
 
 pub returns-in_err-c : goal.returns-in_err-c
 returns-in_err-c c =

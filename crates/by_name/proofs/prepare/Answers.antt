@@ -1,5 +1,5 @@
 -- `by_name::prepare` meets its contract: the kept glyphs are gathered and planned, and what their subset has is a cut of theirs, or the cut is refused.
-use Rattle.std.proofs.Common.{refl, subst, length}
+use Rattle.std.proofs.Common.{arith, refl, subst, length}
 use Rattle.subset.specs.Flag.{flag_of}
 use Rattle.subset.specs.Cut.{Outcome}
 use Rattle.outcome.specs.BothLaws.{gather_asked}
@@ -21,7 +21,7 @@ pub plan_cut-requires : goal.plan_cut-requires
 plan_cut-requires c =
     let a = c.args in
     let g = c.gather-o.ensures in
-    gathered-asked a.ask _ a.asked.now.rows.now a.asked.now.name.now (flag_of a.asked.now.traced) _ a.font.now.held a.keep.now a.words.now c.requires.0 c.gather-o.result _ _ g.0 g.1 g.2 c.gather-o.auto.words
+    (gathered-asked a.ask _ a.asked.now.rows.now a.asked.now.name.now (flag_of a.asked.now.traced) _ a.font.now.held a.keep.now a.words.now c.requires.0 c.gather-o.result _ _ g.0 g.1 g.2 c.gather-o.auto.words, c.requires.2, c.requires.3)
 
 pub returns-in_err-coded : goal.returns-in_err-coded
 returns-in_err-coded c =
@@ -35,7 +35,7 @@ pub new-requires : goal.new-requires
 new-requires c =
     let a = c.args in
     let p = prepared_ok a.ask _ a.asked.now.rows.now (flag_of a.asked.now.traced) c.gather-o.result _ _ _ _ _ _ _ c.plan_cut.ensures _ c.in_ok-coded.was in
-    (p.gathered, record { plan = p.plan; strings = p.strings _ c.requires.0.named; codes = p.codes; walked = record { f = refl; count = refl } })
+    (p.gathered, record { plan = p.plan; strings = p.strings _ c.requires.0.named; codes = p.codes; walked = record { f = refl; count = refl } }, omega (arith, c.plan_cut.auto.codes, c.requires.3))
 
 pub returns : goal.returns
 returns c =

@@ -1,5 +1,5 @@
 -- `cid_parts::places_cid` meets its contract: the places that were measured are the subset's.
-use Rattle.std.proofs.Common.{arith, refl, sym, subst, replicate, ◌∙◌, ◌≡◌}
+use Rattle.std.proofs.Common.{arith, refl, sym, subst, take, replicate, ◌∙◌, ◌≡◌}
 use Rattle.record.specs.Record.{rows_of}
 use Rattle.cff.specs.declared.font.Font.{Font}
 use Rattle.fds.specs.ListLaws.{listed-put}
@@ -18,7 +18,7 @@ placed x =
     let h = a.ready in
     x.place_parts.ensures
     ∙ places_are a.kept.font.now (rows_of a.parts.rows.now) a.parts.used.now a.kept.words.now a.parts.cut.plan a.parts.table.now h.cid a.parts.totals.now h.summed x.part_sizes-all.ensures (listed-put a.parts.used.now (replicate 256 0) _ x.list_used.ensures.0 (table-room (replicate 256 0) refl) a.parts.cut.count h.counted) a.parts.cut.count h.counted
-    a.parts.name.now a.parts.slots.now a.parts.cut.own h.strings _ _ _ _ _
+    a.parts.name.now (take 8 a.parts.slots.now) a.parts.cut.own h.strings _ _ _ _ _
     x.front_len-front.ensures.0 x.globals_len-globals.ensures.0 (x.select_len-select.ensures.0 ∙ select-walked _ _ _ _ _ h.walked) x.glyphs_len-glyphs.ensures.0 x.matrices_len-matrices.ensures
 
 pub part_sizes-all-requires : goal.part_sizes-all-requires
@@ -59,7 +59,7 @@ place_parts-requires c =
     let a = c.args.c.now in
     let h = a.ready in
     places-asked a.kept.font.now (rows_of a.parts.rows.now) a.parts.used.now a.kept.words.now a.parts.cut.plan a.parts.table.now h.cid a.parts.totals.now h.summed c.part_sizes-all.ensures (listed-put a.parts.used.now (replicate 256 0) _ c.list_used.ensures.0 (table-room (replicate 256 0) refl) a.parts.cut.count h.counted) a.parts.cut.count h.counted
-    a.parts.name.now a.parts.slots.now a.parts.cut.own h.strings _ _ _ _ _
+    a.parts.name.now (take 8 a.parts.slots.now) a.parts.cut.own h.strings _ _ _ _ _
     c.front_len-front.ensures.0 c.globals_len-globals.ensures.0 (c.select_len-select.ensures.0 ∙ select-walked _ _ _ _ _ h.walked) c.glyphs_len-glyphs.ensures.0 c.matrices_len-matrices.ensures
     c.front_len-front.ensures.1 c.globals_len-globals.ensures.1 c.glyphs_len-glyphs.ensures.1
 

@@ -14,7 +14,7 @@ good s = coded-good _ s.args.font.now.f s.args.font.now.good s.requires.1
 -- where its codes or ranges end
 within : (c : After-u8_at-count) → (c.u8_at-format.result % 128 ≤ 1)
     × (c.args.font.now.f.encoding + 2 + c.u8_at-count.result * (c.u8_at-format.result % 128 + 1) ≤ length c.args.font.now.bytes.now)
-within c = encoding-within _ _ _ _ (good c.before.before.before.before.before.before.before) c.u8_at-format.ensures.0 c.u8_at-count.ensures.0
+within c = encoding-within _ _ _ _ (good c.before.before.before.before.before.before) c.u8_at-format.ensures.0 c.u8_at-count.ensures.0
 
 pub u8_at-format-requires : goal.u8_at-format-requires
 u8_at-format-requires c = omega (arith, (good (goal.at.u8_at-format-requires c).Start).begun)

@@ -1,10 +1,11 @@
 -- `rename` meets its contract.
-use Rattle.std.proofs.Common.{arith, length, ◌<◌, ◌∙◌, ◌≡◌}
+use Rattle.std.proofs.Common.{arith, length, take, ◌<◌, ◌∙◌, ◌≡◌}
 use Rattle.std.specs.Prelude.{get_or}
+use Rattle.own_strings.specs.IdsLaws.{given-long}
 use Rattle.order_window.specs.GatheredLaws.{glyphs_many}
 use Rattle.order_window.specs.Stays.{order_of, stays-refl, stays-then, stays-word, stays-glyph}
 use Rattle.name_strings.specs.NamesLaws.{order_id}
-use Rattle.name_strings.specs.NamingLaws.{naming-start, naming_asks, naming_counts, naming_id, naming-below, naming-next}
+use Rattle.name_strings.specs.NamingLaws.{naming-start, naming_asks, naming_counts, naming_id, naming-next}
 use Rattle.encoding.specs.IdLaws.{renaming_start, renaming_next, renaming_done}
 use Rattle.encoding.proofs.rename.Goals as goal
 use Rattle.encoding.proofs.rename.Goals.{After-word-w, In-loop-i}
@@ -29,10 +30,8 @@ given_id-id-requires c = naming_asks _ _ _ _ _ _ c.loop-i.invariant.1
 pub count_one-own-requires : goal.count_one-own-requires
 count_one-own-requires c = naming_counts _ _ _ _ _ _ c.loop-i.invariant.1
 
-pub overflow_cast-id : goal.overflow_cast-id
-overflow_cast-id c =
-    let s = goal.at.overflow_cast-id c in
-    omega (arith, naming-below _ _ _ _ _ _ c.loop-i.invariant.1 (more s.In-loop-i) _ (word s.After-word-w) _ c.given_id-id.ensures)
+pub slice_bounds-given_id-end : goal.slice_bounds-given_id-end
+slice_bounds-given_id-end c = omega (arith, given-long _ c.args.slots.now c.requires.given)
 
 pub loop-i-preserved : goal.loop-i-preserved
 loop-i-preserved c =
@@ -47,7 +46,7 @@ loop-i-preserved c =
       renaming_next _ _ _ _ _ _ c.loop-i.invariant.2 (omega (arith, m, glyphs_many k.font.now k.o.f k.words.now)) _ _
           (stays-glyph _ _ c.loop-i.invariant.0 _ c.loop-i-test.true _ c.word-w.ensures.0)
           (naming_id _ _ _ _ _ _ n m _ w _ id
-          ∙ order_id k.font.now k.o.f k.words.now k.gathered.good.glyphs.held.few c.args.slots.now c.requires.front c.loop-i.i m) _ c.put_id.ensures,
+          ∙ order_id k.font.now k.o.f k.words.now k.gathered.good.glyphs.held.few (take 8 c.args.slots.now) c.requires.front c.loop-i.i m) _ c.put_id.ensures,
     )
 
 pub returns : goal.returns

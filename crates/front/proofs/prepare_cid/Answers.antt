@@ -4,4 +4,4 @@ use Rattle.front.proofs.prepare_cid.Goals as goal
 
 pub returns : goal.returns
 returns c =
-    (cid_measured c.args.font.now c.requires _ c.prepare_slots.ensures.0 _ c.prepare_slots.ensures.1, c.prepare_slots.ensures.0)
+    (cid_measured c.args.font.now c.requires.0 _ c.prepare_slots.ensures.0 _ c.prepare_slots.ensures.1, c.prepare_slots.ensures.0)

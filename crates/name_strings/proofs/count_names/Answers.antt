@@ -1,5 +1,6 @@
 -- `count_names` meets its contract: each name is given its new id, and counted where that is the next.
 use Rattle.std.proofs.Common.{arith, get_or, length, ◌<◌, ◌≡◌}
+use Rattle.own_strings.specs.IdsLaws.{given-long}
 use Rattle.order_window.specs.Stays.{order_of, stays-refl, stays-then, stays-word}
 use Rattle.name_strings.specs.NamingLaws.{naming-start, naming_asks, naming_counts, naming-next, naming_end, naming-bound}
 use Rattle.name_strings.proofs.count_names.Goals as goal
@@ -19,6 +20,9 @@ given_id-id-requires c = naming_asks _ _ _ _ _ _ c.loop-i.invariant.1
 
 pub count_one-all-requires : goal.count_one-all-requires
 count_one-all-requires c = naming_counts _ _ _ _ _ _ c.loop-i.invariant.1
+
+pub slice_bounds-given_id-end : goal.slice_bounds-given_id-end
+slice_bounds-given_id-end c = omega (arith, given-long _ c.args.slots.now c.requires.0.given)
 
 pub loop-i-preserved : goal.loop-i-preserved
 loop-i-preserved c = (

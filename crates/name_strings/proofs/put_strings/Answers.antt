@@ -1,9 +1,10 @@
 -- `put_strings` meets its contract: behind the strings of the slots, of the names those are written whose id is the next. The invariant: the window comes
 -- to place i, the own strings before it are counted, and all of them stand behind the head.
-use Rattle.std.proofs.Common.{arith, get_or, length, refl, ◌<◌, ◌∙◌, ◌≡◌}
+use Rattle.std.proofs.Common.{take, arith, get_or, length, refl, ◌<◌, ◌∙◌, ◌≡◌}
 use Rattle.index.specs.Begun.{Meant}
 use Rattle.index.specs.ItemOut.{Begins}
 use Rattle.index.specs.ItemOutLaws.{begins_room, begins_more}
+use Rattle.own_strings.specs.IdsLaws.{given-long}
 use Rattle.order_window.specs.Stays.{order_of, stays-refl, stays-then, stays-word}
 use Rattle.name_strings.specs.NamingLaws.{naming-start}
 use Rattle.name_strings.specs.WriteLaws.{begun_is, others-meant, others_begun, others-whole, name-start, name_string, name-next, name-same, name_end}
@@ -18,11 +19,11 @@ word : (w : After-word-sid) → w.word-sid.result ≡ get_or (order_of w.args.ke
 word w = stays-word _ _ w.loop-i.invariant.0 _ (omega (arith, w.loop-i-test.true)) _ w.word-sid.ensures.0
 
 -- the places are for all own strings
-meant : (l : At-loop-i) → (let a = l.args in let b = l.begin_strings-begun in Meant (length b.ensures.mid.bytes.now) b.result.ix (own a.kept.now a.slots.now))
+meant : (l : At-loop-i) → (let a = l.args in let b = l.begin_strings-begun in Meant (length b.ensures.mid.bytes.now) b.result.ix (own a.kept.now (take 8 a.slots.now)))
 meant l = others-meant _ _ _ _ _ l.begin_strings-begun.ensures _ l.requires.1
 
 -- what is written
-written : (l : At-loop-i) → (let a = l.args in let b = l.begin_strings-begun in Begins b.ensures.mid b.result.ix (own a.kept.now a.slots.now) l.loop-i.c l.loop-i.out)
+written : (l : At-loop-i) → (let a = l.args in let b = l.begin_strings-begun in Begins b.ensures.mid b.result.ix (own a.kept.now (take 8 a.slots.now)) l.loop-i.c l.loop-i.out)
 written l = l.loop-i.invariant.2 _ (meant l) (others_begun _ _ _ _ _ l.begin_strings-begun.ensures _ l.requires.1)
 
 pub loop-i-init : goal.loop-i-init
@@ -40,6 +41,9 @@ pub put_item-requires : goal.put_item-requires
 put_item-requires c =
     let q = name_string _ _ _ _ _ _ c.loop-i.invariant.1 (more (goal.at.put_item-requires c).In-loop-i) _ (word (goal.at.put_item-requires c).After-word-sid) _ c.given_id-id.ensures c.if-id-c.true in
     begins_room (meant (goal.at.put_item-requires c).At-loop-i) _ q.1 (c.own_text-text.ensures ∙ q.2) (written (goal.at.put_item-requires c).At-loop-i)
+
+pub slice_bounds-given_id-end : goal.slice_bounds-given_id-end
+slice_bounds-given_id-end c = omega (arith, given-long _ c.args.slots.now c.requires.0.given)
 
 pub loop-i-preserved : goal.loop-i-preserved
 loop-i-preserved c =

@@ -1,4 +1,4 @@
-use Rattle.std.proofs.Common.{List, length, ℕ}
+use Rattle.std.proofs.Common.{take, List, length, ℕ}
 use Rattle.octets.specs.declared.out.Out.{Out}
 use Rattle.index.specs.Begun.{Meant}
 use Rattle.index.specs.ItemOut.{Begins}
@@ -17,5 +17,5 @@ own k slots = all_own (strings_of k) slots (order_of k)
 abbrev pub invariant-loop-i : goal.invariant-loop-i
 invariant-loop-i l =
     let k = l.initial.kept in
-    Stays k l.kept × NameWriting k.font.now k.o.f k.words.now l.slots l.c l.i
-    × ((mid : Out) → Meant (length mid.bytes.now) l.ix (own k l.slots) → Begins mid l.ix (own k l.slots) l.initial.c l.initial.out → Begins mid l.ix (own k l.slots) l.c l.out)
+    Stays k l.kept × NameWriting k.font.now k.o.f k.words.now (take 8 l.slots) l.c l.i
+    × ((mid : Out) → Meant (length mid.bytes.now) l.ix (own k (take 8 l.slots)) → Begins mid l.ix (own k (take 8 l.slots)) l.initial.c l.initial.out → Begins mid l.ix (own k (take 8 l.slots)) l.c l.out)

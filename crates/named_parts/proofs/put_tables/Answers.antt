@@ -11,8 +11,9 @@ put_charset_named-requires c =
 pub put_encoding-requires : goal.put_encoding-requires
 put_encoding-requires c =
     let h = c.args.c.now.ready in
-    codes-asked c.args.c.now.kept _ _ _ _ h.walked.f h.strings.ready h.codes h.plan.ready.read.size h.plan.apart c.args.out.now.bytes.now c.args.out.now.at c.requires
-    c.put_charset_named.ensures.0.wrote
+    let q = codes-asked c.args.c.now.kept _ _ _ _ h.walked.f h.strings.ready h.codes h.plan.ready.read.size h.plan.apart c.args.out.now.bytes.now c.args.out.now.at c.requires
+    c.put_charset_named.ensures.0.wrote in
+    (q.0, q.1, q.2, c.args.c.now.long)
 
 pub returns : goal.returns
 returns c =

@@ -4,7 +4,7 @@ use Rattle.top_dict.proofs.carried.Goals as goal
 
 pub strings-requires : goal.strings-requires
 unfolding carried
-strings-requires g c = g.met.S.Sink.follows.first _ _ _ c.requires
+strings-requires g c = (g.met.S.Sink.follows.first _ _ _ c.requires, c.args.top.now.filled)
 
 pub copied_entries-requires : goal.copied_entries-requires
 unfolding carried

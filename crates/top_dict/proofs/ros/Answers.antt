@@ -6,7 +6,8 @@ use Rattle.top_dict.specs.TopLaws.{ros-small, ros-none, ros_there, ros-rest}
 use Rattle.top_dict.proofs.ros.Goals as goal
 
 pub ros_ids-requires : goal.ros_ids-requires
-ros_ids-requires g c = first_fits g.met.S.Sink.follows (ros_there c.args.top.now.slots.now _ _ c.ros.ensures _ _ _ c.in-Some.is) c.requires
+ros_ids-requires g c =
+    (first_fits g.met.S.Sink.follows (ros_there c.args.top.now.slots.now _ _ c.ros.ensures _ _ _ c.in-Some.is) c.requires, c.args.top.now.filled)
 
 pub integer-requires : goal.integer-requires
 integer-requires g c =

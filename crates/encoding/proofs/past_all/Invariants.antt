@@ -1,5 +1,0 @@
-use Rattle.encoding.specs.Encoded.{Past}
-use Rattle.encoding.proofs.past_all.Given as goal
-
-abbrev pub invariant-loop-glyph : goal.invariant-loop-glyph
-invariant-loop-glyph l = Past l.named l.glyph-index l.past
