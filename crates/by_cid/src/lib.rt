@@ -72,7 +72,7 @@ fn plan_cut(
         o,
         font,
         asked.rows,
-        asked.traced,
+        u8::from(asked.traced),
         &tables.used,
         words,
         window,

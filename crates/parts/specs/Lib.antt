@@ -2,3 +2,4 @@ pub mod Ready
 pub mod PlannedLaws
 pub mod CodeLaws
 pub mod PrivateLaws
+pub mod FlagLaws

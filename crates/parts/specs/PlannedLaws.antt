@@ -1,8 +1,8 @@
 -- What planning leaves: the words of the glyphs as they were, the way and the bodies those of the subset, and all bodies measured.
 use Prim.Native.Nat.{ℕ, ◌+◌, ◌≤◌, ◌<◌}
-use Rattle.std.specs.Prelude.{◌≡◌, refl, Bool, false, take, get_or, None, Option, Some}
+use Rattle.std.specs.Prelude.{◌≡◌, refl, Bool, false, eqb, ◌&&◌, ◌||◌, ◌⊎◌, take, get_or, None, Option, Some}
 use Rattle.std.proofs.Math.Path.{sym, ap, fun_ext}
-use Rattle.std.proofs.Common.{◌∙◌, subst, arith}
+use Rattle.std.proofs.Common.{◌∙◌, subst, arith, inl, inr, eqb-true, eq-eqb}
 use Rattle.std.proofs.Math.Bool.{true}
 use mathlib.Core.List.{List, [], ◌++◌}
 use Rattle.std.proofs.Math.ListN.{length, drop}
@@ -19,7 +19,7 @@ use Rattle.cff.specs.Find.{locals_words}
 use Rattle.cff.specs.Reads.{program_of}
 use Rattle.cff.specs.declared.font.Font.{Font}
 use Rattle.subset.specs.Pruned.{Pruned, each, mapped, calls_in, pruned}
-use Rattle.order.specs.Walks.{many_in}
+use Rattle.order.specs.Walks.{many_in, order_in}
 use Rattle.order_window.specs.declared.Held.{Held}
 use Rattle.order_window.specs.declared.Order.{Order}
 use Rattle.order_window.specs.declared.window.Kept.{Kept}
@@ -43,20 +43,19 @@ use Rattle.plan.specs.PlanLaws.{way-found}
 use Rattle.plan.specs.InLaws.{measure_in}
 use Rattle.plan.specs.declared.RankedAll.{RankedAll}
 use Rattle.plan.specs.declared.Plan.{Plan}
-use Rattle.parts.specs.Ready.{PlanIn, bodies_for, Ready, Summed}
+use Rattle.parts.specs.Ready.{PlanIn, at_rest, bodies_for, Ready, Summed}
 use Rattle.parts.specs.declared.Planned.{Planned}
 use Rattle.subset.specs.Way.{is_renumbered}
 use Rattle.subset.specs.declared.Way.{Way}
 use Rattle.subset.specs.declared.Way.TheVariants.{Renumbered, Stubbed, Copied}
-use Rattle.subset.specs.Flag.{flag_of}
 
 -- ---- words, ways and bodies
 
 -- bodies are renumbered only where each number has a subroutine
-zero-way : (t u v : Bool) → is_renumbered (pick t (pick u (pick v Renumbered Stubbed) Stubbed) Copied) ≡ true → u ≡ true
-zero-way false u v e = absurd (zero_one cc)
-zero-way true true v e = refl
-zero-way true false v e = absurd (zero_one cc)
+zero-way : (t u v : Bool) → is_renumbered (pick t Copied (pick u (pick v Renumbered Stubbed) Stubbed)) ≡ true → u ≡ true
+zero-way true u v e = absurd (zero_one cc)
+zero-way false true v e = refl
+zero-way false false v e = absurd (zero_one cc)
 
 -- where all parts hold, the last one does
 last-holds : (t u v : Bool) → pick t (pick u v false) false ≡ true → v ≡ true
@@ -104,6 +103,29 @@ module _ (b : List ℕ) (o : Order) (used old window : List ℕ) (h : PlanIn b o
     ordered_again last some same s =
         (steady-again b ws window last o plan_ordered (same-steady b old ws window o bits_stay s) some same).0
 
+    -- no loop had begun exactly where the code says so
+    rest-steady : at_rest o ≡ true → Steady b o.f old window o.held
+    rest-steady e = go (eqb o.held.from 0) (eqb o.held.walk.done 0) (eqb o.held.walk.done o.count) refl refl refl e
+      where
+        go : (t u v : Bool) → eqb o.held.from 0 ≡ t → eqb o.held.walk.done 0 ≡ u → eqb o.held.walk.done o.count ≡ v → (t && (u || v)) ≡ true → Steady b o.f old window o.held
+        go true true v x y z e = record { holds = h.ordered.holds; front = eqb-true o.held.from 0 x; whole = inl (eqb-true o.held.walk.done 0 y) }
+        go true false true x y z e =
+            record { holds = h.ordered.holds; front = eqb-true o.held.from 0 x; whole = inr (eqb-true o.held.walk.done o.count z ∙ h.ordered.many) }
+        go true false false x y z e = absurd (zero_one cc)
+        go false u v x y z e = absurd (zero_one cc)
+
+    steady_rest : Steady b o.f old window o.held → at_rest o ≡ true
+    steady_rest s = ap (λ (t : Bool). t && (eqb o.held.walk.done 0 || eqb o.held.walk.done o.count)) (eq-eqb o.held.from 0 s.front) ∙ go s.whole
+      where
+        last-true : (t : Bool) → (t || true) ≡ true
+        last-true true = refl
+        last-true false = refl
+
+        go : (o.held.walk.done ≡ 0) ⊎ (o.held.walk.done ≡ length (order_in b o.f old)) → (eqb o.held.walk.done 0 || eqb o.held.walk.done o.count) ≡ true
+        go (inl z) = ap (λ (t : Bool). t || eqb o.held.walk.done o.count) (eq-eqb o.held.walk.done 0 z)
+        go (inr w) =
+            ap (λ (t : Bool). eqb o.held.walk.done 0 || t) (eq-eqb o.held.walk.done o.count (w ∙ sym h.ordered.many)) ∙ last-true (eqb o.held.walk.done 0)
+
     within : FdsUsed p used (glyphs_of b o.f ws)
     within = subst (FdsUsed p used) order_stays h.within
 
@@ -127,7 +149,7 @@ module _ (b : List ℕ) (o : Order) (used old window : List ℕ) (h : PlanIn b o
 
       -- ---- what is found and measured
 
-      module _ (held : Held) (traced : Bool) (first : Way) (tried : first ≡ first_way traced ranked.all) (totals : List ℕ) (r : Plan)
+      module _ (held : Held) (traced : ℕ) (first : Way) (tried : first ≡ first_way traced ranked.all) (totals : List ℕ) (r : Plan)
           (t : Plans p rows ws used table ranked.globals (glyphs_of b o.f ws) first totals r) where
         abbrev planned : Planned
         planned = record { order = after held; how = by r.way; globals_total = r.globals_total; glyphs_total = r.glyphs_total }
@@ -139,7 +161,7 @@ module _ (b : List ℕ) (o : Order) (used old window : List ℕ) (h : PlanIn b o
         numbered : is_renumbered r.way ≡ true → every_numbered p rows (fds_in used) ≡ true
         numbered e =
             sym s.told
-            ∙ zero-way traced ranked.all (all_made Renumbered p rows ws used table ranked.globals (glyphs_of b o.f ws)) (ap is_renumbered (sym found) ∙ e)
+            ∙ zero-way (eqb traced 0) ranked.all (all_made Renumbered p rows ws used table ranked.globals (glyphs_of b o.f ws)) (ap is_renumbered (sym found) ∙ e)
 
         made : all_made r.way p rows ws used table ranked.globals (glyphs_of b o.f ws) ≡ true
         made = t.sizes.made
@@ -181,16 +203,16 @@ module _ (b : List ℕ) (o : Order) (used old window : List ℕ) (h : PlanIn b o
         plan_summed long = record { long = long; sums = t.sizes.of_locals; few = t.sizes.few_locals }
 
         -- the way and the bodies are the subset's
-        plan_pruned : record { way = r.way; bodies = bodies_for b rows used ws planned } ≡ pruned p rows (fds_in used) (glyphs_of b o.f old) (flag_of traced)
+        plan_pruned : record { way = r.way; bodies = bodies_for b rows used ws planned } ≡ pruned p rows (fds_in used) (glyphs_of b o.f old) traced
         plan_pruned =
             let order = glyphs_of b o.f ws in
-            let by = pruned-by p rows (fds_in used) order (flag_of traced) in
-            let e : r.way ≡ way_of p rows (fds_in used) order (flag_of traced)
+            let by = pruned-by p rows (fds_in used) order traced in
+            let e : r.way ≡ way_of p rows (fds_in used) order traced
             = found
             ∙ way_is p h.read.program rows narrow used ws ranked.globals table s.ranked order within traced ranked.all s.told
             ∙ ap (λ (q : Pruned). q.way) by in
             ap (λ (w : Way). record { way = w; bodies = bodies_by p rows w (fds_in used) order }) e
-            ∙ sym by ∙ ap (λ (l : List ℕ). pruned p rows (fds_in used) l (flag_of traced)) (sym order_stays)
+            ∙ sym by ∙ ap (λ (l : List ℕ). pruned p rows (fds_in used) l traced) (sym order_stays)
 
         -- what the code returns, the window being moved by then
         abbrev planned_by : Order → Planned
@@ -199,7 +221,7 @@ module _ (b : List ℕ) (o : Order) (used old window : List ℕ) (h : PlanIn b o
         abbrev Whole : Order → Type 0
         Whole q =
             Ready b rows used ws (planned_by q) table × Summed b rows used ws (planned_by q) table totals
-            × (record { way = r.way; bodies = bodies_for b rows used ws (planned_by q) } ≡ pruned p rows (fds_in used) (glyphs_of b o.f old) (flag_of traced))
+            × (record { way = r.way; bodies = bodies_for b rows used ws (planned_by q) } ≡ pruned p rows (fds_in used) (glyphs_of b o.f old) traced)
 
         whole_moved : (q : Order) → q.f ≡ o.f → q.count ≡ o.count → q.held ≡ held → Whole (after held) → Whole q
         whole_moved q f n g w =
@@ -212,11 +234,39 @@ module _ (b : List ℕ) (o : Order) (used old window : List ℕ) (h : PlanIn b o
             → (HoldsAll o → (q ≡ o) × (last ≡ window))
             → Ready b rows used ws (planned_by q) table × Summed b rows used ws (planned_by q) table totals × Gathered b ws last q × (q.f ≡ o.f) × (q.count ≡ o.count)
             × (glyphs_of b o.f ws ≡ glyphs_of b o.f old)
-            × (record { way = r.way; bodies = bodies_for b rows used ws (planned_by q) } ≡ pruned p rows (fds_in used) (glyphs_of b o.f old) (flag_of traced))
+            × (record { way = r.way; bodies = bodies_for b rows used ws (planned_by q) } ≡ pruned p rows (fds_in used) (glyphs_of b o.f old) traced)
             × (HoldsAll o → (q ≡ o) × (last ≡ window)) × (Steady b o.f old window o.held → Gathered b ws last o)
         returns_planned long q f n g last gathered whole =
             let w = whole_moved q f n g (plan_ready, plan_summed long, plan_pruned) in
             (w.0, w.1, gathered, f, n, sym order_stays, w.2, whole, ordered_again last gathered.some (λ h. (whole h).1))
+
+        -- the order that was given stands in the answer where no loop had begun
+        abbrev Returned : List ℕ → Order → Type 0
+        Returned last q =
+            Ready b rows used ws (planned_by q) table × Summed b rows used ws (planned_by q) table totals × Gathered b ws last q × (q.f ≡ o.f) × (q.count ≡ o.count)
+            × (glyphs_of b o.f ws ≡ glyphs_of b o.f old)
+            × (record { way = r.way; bodies = bodies_for b rows used ws (planned_by q) } ≡ pruned p rows (fds_in used) (glyphs_of b o.f old) traced)
+            × (HoldsAll o → (q ≡ o) × (last ≡ window)) × (Steady b o.f old window o.held → Gathered b ws last o) × (Steady b o.f old window o.held → q ≡ o)
+
+        with_order : 256 ≤ length totals → (q : Order) → q.f ≡ o.f → q.count ≡ o.count → q.held ≡ held → (last : List ℕ) → Gathered b ws last q
+            → (HoldsAll o → (q ≡ o) × (last ≡ window)) → (Steady b o.f old window o.held → q ≡ o) → Returned last q
+        with_order long q f n g last gathered whole steady =
+            let w = returns_planned long q f n g last gathered whole in
+            (w.0, w.1, w.2, w.3, w.4, w.5, w.6, w.7, w.8, steady)
+
+        pub returns_standing : 256 ≤ length totals → (m : Order) → m.f ≡ o.f → m.count ≡ o.count → (last : List ℕ) → Gathered b ws last m
+            → (HoldsAll o → (m ≡ o) × (last ≡ window)) → (q : Order) → q ≡ pick (at_rest o) o m → q.held ≡ held → Returned last q
+        returns_standing long m f n last gathered whole q is g = go (at_rest o) refl is
+          where
+            go : (t : Bool) → at_rest o ≡ t → q ≡ pick t o m → Returned last q
+            go true e i =
+                with_order long q (ap (λ (x : Order). x.f) i) (ap (λ (x : Order). x.count) i) g last
+                (subst (Gathered b ws last) (sym i) (ordered_again last gathered.some (λ h. (whole h).1) (rest-steady e)))
+                (λ h. (i, (whole h).1)) (λ s. i)
+            go false e i =
+                with_order long q (ap (λ (x : Order). x.f) i ∙ f) (ap (λ (x : Order). x.count) i ∙ n) g last (subst (Gathered b ws last) (sym i) gathered)
+                (λ h. let w = whole h in (i ∙ w.0, w.1))
+                (λ s. absurd (zero_one (let y : ◌≡◌ {A = Bool} false true = sym e ∙ steady_rest s in cc)))
 
 -- who lent the window has what it holds after it was moved
 pub stays_gathered : (a b : Kept) → Stays a b → (window : List ℕ) → window ≡ b.window.now → Gathered a.font.now a.words.now window b.o

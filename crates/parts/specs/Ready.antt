@@ -1,6 +1,6 @@
 -- What is ready when the bodies of a subset are written (document 01, 'Corners in write.rs'): the work words and the tables as the plan left
 -- them, and the sizes that it found, in the terms of the subset (crates/subset, Pruned; crates/bodies, bodies_by).
-use Rattle.std.specs.Prelude.{ℕ, ◌≤◌, ◌<◌, ◌≡◌, true, List, length, get_or}
+use Rattle.std.specs.Prelude.{ℕ, ◌≤◌, ◌<◌, ◌≡◌, Bool, true, ◌&&◌, ◌||◌, List, eqb, length, get_or}
 use Rattle.index.specs.Write.{total}
 use Rattle.unfold.specs.Unfold.{Row}
 use Rattle.cff.specs.Reads.{program_of}
@@ -26,6 +26,10 @@ pub record PlanIn (b : List ℕ) (o : Order) (used ws window : List ℕ) : Type 
   pub ordered : Gathered b ws window o
   pub within : FdsUsed (program_of b o.f) used (glyphs_of b o.f ws)
   pub room : small_size (program_of b o.f) ≤ length ws
+
+-- whether no loop over the kept glyphs has begun: the window holds all of them, or none
+abbrev pub at_rest : Order → Bool
+at_rest o = eqb o.held.from 0 && (eqb o.held.walk.done 0 || eqb o.held.walk.done o.count)
 
 module _ (b : List ℕ) (rows : List Row) (used ws : List ℕ) (r : Planned) where
   -- the bodies of the subset, by the way

@@ -4,15 +4,15 @@
 
 ghost use Rattle.std.specs.Prelude.{◌≡◌, ◌+◌, ◌≤◌, length};
 ghost use Rattle.octets.specs.Out.{Writes};
+ghost use Rattle.octets.specs.Pick.{pick};
 ghost use Rattle.index.specs.Write.{index_bytes, index_len_lem};
 ghost use Rattle.record.specs.Record.{rows_of};
 ghost use Rattle.cff.specs.Reads.{program_of};
 ghost use Rattle.subset.specs.Pruned.{pruned};
-ghost use Rattle.subset.specs.Flag.{flag_of};
 ghost use Rattle.bodies.specs.Ways.{kept_count};
 ghost use Rattle.fds.specs.Locals.{fds_in};
 ghost use Rattle.order_window.specs.Window.{glyphs_of, Steady, HoldsAll, Gathered};
-ghost use Rattle.parts.specs.Ready.{PlanIn, bodies_for, Ready, Summed};
+ghost use Rattle.parts.specs.Ready.{PlanIn, at_rest, bodies_for, Ready, Summed};
 
 use bodies::Manner;
 use bodies::measured::Measured;
@@ -35,13 +35,24 @@ pub struct Planned {
     pub glyphs_total: usize,
 }
 
+// The order that was given, where no loop over it had begun: then it still stands, whatever the window holds by now.
+fn standing(given: Order, moved: Order) -> Order
+    ensures { result ≡ pick (at_rest given) given moved }
+{
+    let held = given.held;
+    if held.from == 0 && (held.walk.done == 0 || held.walk.done == given.count) {
+        return given;
+    }
+    moved
+}
+
 // Ranks all subroutines in the work words behind the bits of the glyphs, finds the way, and measures all bodies by it: those of the locals of
 // each FD in use in a table. A window that holds all kept glyphs is left as it was; of another the order that was given still stands.
 pub fn plan_all(
     o: Order,
     font: &[u8],
     rows: &[u8],
-    traced: bool,
+    traced: u8,
     used: &[u32],
     words: &mut [u32],
     window: &mut [u32],
@@ -54,9 +65,10 @@ pub fn plan_all(
         × (Gathered font.now words.new window.new result.order) × (result.order.f ≡ o.f) × (result.order.count ≡ o.count)
         × (glyphs_of font.now o.f words.new ≡ glyphs_of font.now o.f words.old)
         × (record { way = result.how.way; bodies = bodies_for font.now (rows_of rows.now) used.now words.new result }
-        ≡ pruned (program_of font.now o.f) (rows_of rows.now) (fds_in used.now) (glyphs_of font.now o.f words.old) (flag_of traced))
+        ≡ pruned (program_of font.now o.f) (rows_of rows.now) (fds_in used.now) (glyphs_of font.now o.f words.old) traced)
         × (HoldsAll o → (result.order ≡ o) × (window.new ≡ window.old))
-        × (Steady font.now o.f words.old window.old o.held → Gathered font.now words.new window.new o) }
+        × (Steady font.now o.f words.old window.old o.held → Gathered font.now words.new window.new o)
+        × (Steady font.now o.f words.old window.old o.held → result.order ≡ o) }
 {
     let loaded = Loaded {
         bytes: font,
@@ -84,7 +96,7 @@ pub fn plan_all(
         rising,
     };
     Planned {
-        order: kept.o,
+        order: standing(o, kept.o),
         how,
         globals_total: found.globals_total,
         glyphs_total: found.glyphs_total,

@@ -5,6 +5,7 @@ use Rattle.subset.specs.Flag.{flag_of}
 use Rattle.cid_parts.specs.CidPlacesLaws.{table-room}
 use Rattle.by_cid.specs.CidKeptLaws.{plan_asked}
 use Rattle.outcome.specs.Walked.{gathered-stays}
+use Rattle.parts.specs.FlagLaws.{byte_is}
 use Rattle.by_cid.specs.Prepares.{all_prepared}
 use Rattle.by_cid.proofs.plan_cut.Goals as goal
 
@@ -27,4 +28,4 @@ returns c =
     let k = c.rank_fds-count.ensures in
     let p = c.plan_all-plan.ensures in
     all_prepared a.font.now a.asked.now.rows.now (flag_of a.asked.now.traced) a.o a.words.now _ c.requires.0 _ _ c.prepare_cid-own.ensures.0 c.prepare_cid-own.ensures.1 _ (table-room _ refl) _ k.0 _ k.1
-    c.rank_fds-count.new.kept.o k.2.f k.2.count _ _ p.3 p.4 p.5 _ p.0 p.1 p.2 p.6
+    c.rank_fds-count.new.kept.o k.2.f k.2.count _ _ p.3 p.4 p.5 _ p.0 p.1 p.2 (rw (byte_is _ _ c.from.ensures) at p.6)

@@ -7,6 +7,7 @@ use Rattle.order_window.specs.Window.{Gathered}
 use Rattle.by_name.specs.NamedKeptLaws.{named_refused, names-rename, pairs_refused}
 use Rattle.by_name.specs.NamedPlanLaws.{first-only}
 use Rattle.outcome.specs.Walked.{gathered-stays}
+use Rattle.parts.specs.FlagLaws.{byte_is}
 use Rattle.by_name.specs.PrepareLaws.{rename-stays, codes-stay, plan-asked, all_prepared}
 use Rattle.by_name.proofs.plan_cut.Goals as goal
 
@@ -45,4 +46,4 @@ returns c =
     let p = c.plan_all-plan.ensures in
     all_prepared c.args.ask _ c.args.asked.now.rows.now (flag_of c.args.asked.now.traced) _ _ _ c.requires.0 _ _ s.f g _ _ e.0 e.1 c.if-own-gt64609.false _ _
     (codes-stay _ _ e.2 c.args.ask _ _ c.encode-encoding.ensures.0) (omega (arith, c.pairs.ensures, c.if-pairs-gt255.false)) _
-    first-only _ _ p.3 p.4 p.5 _ p.0 p.1 p.2 p.6
+    first-only _ _ p.3 p.4 p.5 _ p.0 p.1 p.2 (rw (byte_is _ _ c.from.ensures) at p.6)
