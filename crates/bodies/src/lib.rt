@@ -8,6 +8,7 @@ pub mod subrs;
 
 ghost use Rattle.std.specs.Prelude.{◌≡◌, true, ◌+◌, ◌*◌, ◌≤◌, false, length};
 ghost use Rattle.octets.specs.Out.{Writes};
+ghost use Rattle.mask_rows.specs.SameRoom.{SameRoom};
 ghost use Rattle.renumber.specs.Turn.{sized_of};
 ghost use Rattle.bodies.specs.Ways.{holds, by_way, new_by_way};
 ghost use Rattle.bodies.specs.Sizes.{AtMost};
@@ -49,7 +50,7 @@ pub fn body_len(way: Way, body: &Body<'_>) -> Option<usize>
 
 // The same where it has more rows than a window holds.
 pub fn long_body_len(way: Way, one: &LongBody<'_>, lent: &mut Lent<'_>) -> Option<usize>
-    ensures { (result ≡ sized_of (by_way way one.now.body.now)) × (AtMost (5 * length one.now.body.now.code.now) result) }
+    ensures { (result ≡ sized_of (by_way way one.now.body.now)) × (AtMost (5 * length one.now.body.now.code.now) result) × SameRoom lent.old lent.new }
 {
     if way == Way::Renumbered {
         return long_bodies::renumbered_len(one, lent);
@@ -71,7 +72,7 @@ pub fn put_body(way: Way, body: &Body<'_>, out: &mut Out<'_>)
 // The same where it has more rows than a window holds.
 pub fn put_long_body(way: Way, one: &LongBody<'_>, out: &mut Out<'_>, lent: &mut Lent<'_>)
     requires { (holds (by_way way one.now.body.now) ≡ true) × (out.old.at + length (new_by_way way one.now.body.now) ≤ length out.old.bytes.now) }
-    ensures { Writes out.old (new_by_way way one.now.body.now) out.new }
+    ensures { (Writes out.old (new_by_way way one.now.body.now) out.new) × SameRoom lent.old lent.new }
 {
     if way == Way::Renumbered {
         return long_bodies::put_renumbered(one, out, lent);

@@ -2,6 +2,7 @@
 ghost use Rattle.std.specs.Prelude.{◌≡◌, true, ◌+◌, ◌≤◌, ◌<◌, length};
 ghost use Rattle.octets.specs.Out.{Writes};
 ghost use Rattle.mask_rows.specs.MaskRows.{CoversOrNone, HasOrNone};
+ghost use Rattle.mask_rows.specs.SameRoom.{SameRoom};
 ghost use Rattle.order_window.specs.Stays.{Stays};
 ghost use Rattle.renumber.specs.Turn.{sized_of, body_of_lem};
 ghost use Rattle.bodies.specs.Ways.{holds};
@@ -82,7 +83,7 @@ fn in_order(from: Source) -> Source
 
 // The same where the glyph has more rows than a window holds.
 fn long_len(one: &Charstring<'_>, lent: &mut Lent<'_>) -> Option<usize>
-    ensures { (result ≡ sized_of (written one.now)) × (AtMost 335544320 result) }
+    ensures { (result ≡ sized_of (written one.now)) × (AtMost 335544320 result) × SameRoom lent.old lent.new }
 {
     let body = body_of(one);
     let long = LongBody { body: &body };
@@ -96,7 +97,8 @@ pub fn windowed_len(
     lent: &mut Lent<'_>,
 ) -> Option<usize>
     requires { (CoversOrNone one.now.rows.now lent.old.bytes.now 2 0 masks) × (HasOrNone one.now.glyph.number masks) }
-    ensures { (result ≡ sized_of (written one.now)) × (AtMost 335544320 result) × (CoversOrNone one.now.rows.now lent.new.bytes.now 2 0 masks) }
+    ensures { (result ≡ sized_of (written one.now)) × (AtMost 335544320 result) × (CoversOrNone one.now.rows.now lent.new.bytes.now 2 0 masks)
+        × SameRoom lent.old lent.new }
 {
     let Some(masks) = masks else {
         return long_len(one, lent);
@@ -127,7 +129,7 @@ pub fn put_charstring(one: &Charstring<'_>, out: &mut Out<'_>)
 // The same where the glyph has more rows than a window holds.
 fn put_long(one: &Charstring<'_>, out: &mut Out<'_>, lent: &mut Lent<'_>)
     requires { (holds (written one.now) ≡ true) × (out.old.at + length (body_of_lem (written one.now)) ≤ length out.old.bytes.now) }
-    ensures { Writes out.old (body_of_lem (written one.now)) out.new }
+    ensures { (Writes out.old (body_of_lem (written one.now)) out.new) × SameRoom lent.old lent.new }
 {
     let body = body_of(one);
     let long = LongBody { body: &body };
@@ -143,7 +145,8 @@ pub fn put_windowed(
 )
     requires { (CoversOrNone one.now.rows.now lent.old.bytes.now 2 0 masks) × (HasOrNone one.now.glyph.number masks)
         × (holds (written one.now) ≡ true) × (out.old.at + length (body_of_lem (written one.now)) ≤ length out.old.bytes.now) }
-    ensures { (Writes out.old (body_of_lem (written one.now)) out.new) × (CoversOrNone one.now.rows.now lent.new.bytes.now 2 0 masks) }
+    ensures { (Writes out.old (body_of_lem (written one.now)) out.new) × (CoversOrNone one.now.rows.now lent.new.bytes.now 2 0 masks)
+        × SameRoom lent.old lent.new }
 {
     let Some(masks) = masks else {
         return put_long(one, out, lent);

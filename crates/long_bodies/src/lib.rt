@@ -14,6 +14,7 @@ ghost use Rattle.charstring.specs.Token.{more};
 ghost use Rattle.charstring.specs.Answers.{Within};
 ghost use Rattle.record.specs.Record.{rows_of, two_lengths_lem};
 ghost use Rattle.unfold.specs.Sites.{site_of};
+ghost use Rattle.mask_rows.specs.SameRoom.{SameRoom};
 ghost use Rattle.renumber.specs.Turn.{cursor, sized_of, body_of_lem, is_yes};
 ghost use Rattle.renumber.specs.Bodies.{renumbered_of, turned_of};
 ghost use Rattle.renumber.specs.Walks.{Turns};
@@ -66,7 +67,7 @@ fn turn_in(
 // The length of a body renumbered, of one length at each offset; or that this fails. (A mask asks for the offset of its operator.)
 fn body_len(one: &LongBody<'_>, lent: &mut Lent<'_>) -> Option<usize>
     requires { two_lengths_lem (rows_of one.now.body.now.rows.bytes.now) (site_of one.now.body.now.site) ≡ false }
-    ensures { result ≡ sized_of (turned_of one.now.body.now) }
+    ensures { (result ≡ sized_of (turned_of one.now.body.now)) × SameRoom lent.old lent.new }
 {
     let body = one.body;
     let code = body.code;
@@ -111,7 +112,7 @@ fn body_len(one: &LongBody<'_>, lent: &mut Lent<'_>) -> Option<usize>
 
 // The length of a body renumbered, or that this fails: two lengths at one offset fail too.
 pub fn renumbered_len(one: &LongBody<'_>, lent: &mut Lent<'_>) -> Option<usize>
-    ensures { result ≡ sized_of (renumbered_of one.now.body.now) }
+    ensures { (result ≡ sized_of (renumbered_of one.now.body.now)) × SameRoom lent.old lent.new }
 {
     let body = one.body;
     if offsets::two_lengths(body.rows.bytes, body.site, &mut *lent.keys) {
@@ -123,7 +124,7 @@ pub fn renumbered_len(one: &LongBody<'_>, lent: &mut Lent<'_>) -> Option<usize>
 // A body renumbered.
 pub fn put_renumbered(one: &LongBody<'_>, out: &mut Out<'_>, lent: &mut Lent<'_>)
     requires { (is_yes (renumbered_of one.now.body.now) ≡ true) × (out.old.at + length (body_of_lem (renumbered_of one.now.body.now)) ≤ length out.old.bytes.now) }
-    ensures { Writes out.old (body_of_lem (renumbered_of one.now.body.now)) out.new }
+    ensures { (Writes out.old (body_of_lem (renumbered_of one.now.body.now)) out.new) × SameRoom lent.old lent.new }
 {
     let body = one.body;
     let code = body.code;

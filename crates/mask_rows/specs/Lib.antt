@@ -3,3 +3,4 @@ pub mod SameLaws
 pub mod KeyLaws
 pub mod FillLaws
 pub mod Alone
+pub mod SameRoom

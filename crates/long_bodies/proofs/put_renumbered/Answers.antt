@@ -4,6 +4,7 @@ use Rattle.std.proofs.Common.{arith, refl, sym, ◌-◌, ◌∙◌}
 use Rattle.charstring.specs.Token.{token_at}
 use Rattle.charstring.specs.TokenLaws.{measurable}
 use Rattle.charstring.specs.TokensLaws.{Next}
+use Rattle.mask_rows.specs.SameRoom.{room_stays, room_then}
 use Rattle.renumber.specs.Bodies.{given_of}
 use Rattle.renumber.specs.Walks.{walk_next, puts_start, puts_end-room, puts_end, puts_run-room, puts_run, puts_turn-room, puts_turn, puts_failed}
 use Rattle.long_bodies.specs.WalkLaws.{one_each}
@@ -15,7 +16,7 @@ next : (c : In-Some) → Next c.args.one.now.body.now.code.now c.loop-body.c (to
 next c = walk_next c.args.one.now.body.now c.loop-body.invariant.0.turning (sym c.more.ensures ∙ c.loop-body-test.true) c.turn_in.ensures c.in-Some.is
 
 pub loop-body-init : goal.loop-body-init
-loop-body-init c = (puts_start c.args.one.now.body.now c.start-c.ensures, tt, refl, refl)
+loop-body-init c = (puts_start c.args.one.now.body.now c.start-c.ensures, tt, refl, refl, room_stays _)
 
 pub invariant_of-of : goal.invariant_of-of
 invariant_of-of c = record { sited = c.args.one.now.sited }
@@ -45,7 +46,7 @@ put_run-requires c = (
 
 pub loop-body-preserved-then-c-run : goal.loop-body-preserved-then-c-run
 loop-body-preserved-then-c-run c =
-    (puts_run c.args.one.now.body.now c.requires.0 c.requires.1 c.loop-body.invariant.0 c.run_at-run.ensures c.if-c-run.true c.put_run.ensures.wrote c.number_before-h.ensures, c.loop-body.invariant.1, c.put_run.ensures.same ∙ c.loop-body.invariant.2, c.put_run.ensures.size ∙ c.loop-body.invariant.3)
+    (puts_run c.args.one.now.body.now c.requires.0 c.requires.1 c.loop-body.invariant.0 c.run_at-run.ensures c.if-c-run.true c.put_run.ensures.wrote c.number_before-h.ensures, c.loop-body.invariant.1, c.put_run.ensures.same ∙ c.loop-body.invariant.2, c.put_run.ensures.size ∙ c.loop-body.invariant.3, c.loop-body.invariant.4)
 
 pub put_sent-requires : goal.put_sent-requires
 put_sent-requires c = (
@@ -61,7 +62,7 @@ loop-body-smaller c = (next (goal.at.loop-body-smaller c).In-Some).moves.shorter
 
 pub loop-body-preserved : goal.loop-body-preserved
 loop-body-preserved c =
-    (puts_turn c.args.one.now.body.now c.requires.0 c.requires.1 c.loop-body.invariant.0 (sym c.more.ensures ∙ c.loop-body-test.true) c.turn_in.ensures c.in-Some.is c.put_sent.ensures.wrote c.held_after-h.ensures, c.advance-next.ensures.0, c.put_sent.ensures.same ∙ c.loop-body.invariant.2, c.put_sent.ensures.size ∙ c.loop-body.invariant.3)
+    (puts_turn c.args.one.now.body.now c.requires.0 c.requires.1 c.loop-body.invariant.0 (sym c.more.ensures ∙ c.loop-body-test.true) c.turn_in.ensures c.in-Some.is c.put_sent.ensures.wrote c.held_after-h.ensures, c.advance-next.ensures.0, c.put_sent.ensures.same ∙ c.loop-body.invariant.2, c.put_sent.ensures.size ∙ c.loop-body.invariant.3, room_then c.loop-body.invariant.4 c.advance-next.ensures.4)
 
 pub returns-in-None : goal.returns-in-None
 returns-in-None c = absurd (puts_failed c.args.one.now.body.now c.requires.0 c.requires.1 c.loop-body.invariant.0 (sym c.more.ensures ∙ c.loop-body-test.true) c.turn_in.ensures c.in-None.is)
@@ -70,8 +71,11 @@ pub put_held-requires : goal.put_held-requires
 put_held-requires c = puts_end-room c.args.one.now.body.now c.requires.0 c.requires.1 c.loop-body.invariant.0 (sym c.more.ensures ∙ c.loop-body-test.false)
 
 pub returns : goal.returns
-returns c = record {
-  wrote = puts_end c.args.one.now.body.now c.requires.0 c.requires.1 c.loop-body.invariant.0 (sym c.more.ensures ∙ c.loop-body-test.false) c.put_held.ensures.wrote;
-  same = c.put_held.ensures.same ∙ c.loop-body.invariant.2;
-  size = c.put_held.ensures.size ∙ c.loop-body.invariant.3;
-}
+returns c = (
+  record {
+    wrote = puts_end c.args.one.now.body.now c.requires.0 c.requires.1 c.loop-body.invariant.0 (sym c.more.ensures ∙ c.loop-body-test.false) c.put_held.ensures.wrote;
+    same = c.put_held.ensures.same ∙ c.loop-body.invariant.2;
+    size = c.put_held.ensures.size ∙ c.loop-body.invariant.3;
+  },
+  c.loop-body.invariant.4,
+)

@@ -10,4 +10,4 @@ pub invariant_of-long : goal.invariant_of-long
 invariant_of-long c = record { sited = written_sited c.args.one.now c.body_of-measured.ensures }
 
 pub returns : goal.returns
-returns c = written-len c.args.one.now c.body_of-measured.ensures (sym c.is_stub.ensures ∙ c.if-is_stub.false) c.long_body_len.ensures
+returns c = written-len c.args.one.now c.body_of-measured.ensures (sym c.is_stub.ensures ∙ c.if-is_stub.false) (c.long_body_len.ensures.0, c.long_body_len.ensures.1)

@@ -16,4 +16,4 @@ pub put_long_body-requires : goal.put_long_body-requires
 put_long_body-requires c = written_room c.args.one.now c.body_of-written.ensures (sym c.is_stub.ensures ∙ c.if-is_stub.false) _ _ c.requires.0 c.requires.1
 
 pub returns : goal.returns
-returns c = written_writes c.args.one.now c.body_of-written.ensures (sym c.is_stub.ensures ∙ c.if-is_stub.false) c.put_long_body.ensures
+returns c = written_writes c.args.one.now c.body_of-written.ensures (sym c.is_stub.ensures ∙ c.if-is_stub.false) c.put_long_body.ensures.0

@@ -9,4 +9,4 @@ pub put_long_body-requires : goal.put_long_body-requires
 put_long_body-requires c = charstring_room c.args.one.now c.body_of-body.ensures _ _ c.requires.0 c.requires.1
 
 pub returns : goal.returns
-returns c = charstring_writes c.args.one.now c.body_of-body.ensures c.put_long_body.ensures
+returns c = (charstring_writes c.args.one.now c.body_of-body.ensures c.put_long_body.ensures.0, c.put_long_body.ensures.1)
