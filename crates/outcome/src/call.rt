@@ -41,6 +41,16 @@ pub struct Call {
     pub small: bool,
 }
 
+impl Call {
+    ghost use Rattle.std.specs.Prelude.{◌≡◌};
+
+    pub fn new(keying: Keying, small: bool) -> Call
+        ensures { result ≡ record { keying = keying; small = small } }
+    {
+        Call { keying, small }
+    }
+}
+
 // What the subset is asked to be: its name, the glyphs to keep, and the rows and the flag of the reach record. The flag is any byte: refusal 8 judges it.
 #[derive(Clone, Copy)]
 pub struct Request<'a> {
@@ -49,4 +59,20 @@ pub struct Request<'a> {
     pub rows: &'a [u8],
     pub traced: u8,
     ghost octets: { Octets rows.now },
+}
+
+impl<'a> Request<'a> {
+    ghost use Rattle.std.specs.Prelude.{◌≡◌};
+
+    // What is asked, put together: by a function, since rows that are a parameter are known to be octets.
+    pub fn new(name: &'a [u8], keep: &'a [u16], rows: &'a [u8], traced: u8) -> Request<'a>
+        ensures { (result.name.now ≡ name.now) × (result.keep.now ≡ keep.now) × (result.rows.now ≡ rows.now) × (result.traced ≡ traced) }
+    {
+        Request {
+            name,
+            keep,
+            rows,
+            traced,
+        }
+    }
 }

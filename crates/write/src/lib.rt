@@ -1,10 +1,10 @@
 // Subsetting (write.rs: subset, subset_cid): refusals in document 01's order, then the cut by the keying.
 #![tactic(auto)]
 
-ghost use Rattle.std.specs.Prelude.{length};
+ghost use Rattle.std.specs.Prelude.{true, false, length};
 ghost use Rattle.cff.specs.Loaded.{program};
 ghost use Rattle.outcome.specs.Call.{is_cid, asks};
-ghost use Rattle.outcome.specs.Entry.{size_of, cut_behind, CutsWith, Cut, Passed};
+ghost use Rattle.outcome.specs.Entry.{size_of, cut_behind, CutsWith, Cuts, CutsSmall, Cut, Passed};
 
 use asked::Asked;
 use cff::opened::Opened;
@@ -81,4 +81,78 @@ pub fn cut(
         work.old out.old work.new out.new result }
 {
     cut_font(c, &cff::set::read(font)?, ask, work, out)
+}
+
+// The subset of a name-keyed font: glyph 0 and the glyphs of the keep list; and where it is asked for, its encoding (document 02, Wish 4).
+pub fn subset(
+    font: &[u8],
+    name: &[u8],
+    keep: &[u16],
+    rows: &[u8],
+    traced: u8,
+    encoding: bool,
+    work: &mut [u32],
+    out: &mut [u8],
+) -> Result<Subsetted, Refusal>
+    ensures { Cuts false encoding font.now name.now keep.now rows.now traced work.old out.old
+        work.new out.new result }
+{
+    let c = Call::new(Keying::Name { encoding }, false);
+    let ask = Request::new(name, keep, rows, traced);
+    cut(c, font, &ask, work, out)
+}
+
+// The subset of a CID-keyed font.
+pub fn subset_cid(
+    font: &[u8],
+    name: &[u8],
+    keep: &[u16],
+    rows: &[u8],
+    traced: u8,
+    work: &mut [u32],
+    out: &mut [u8],
+) -> Result<Subsetted, Refusal>
+    ensures { Cuts true false font.now name.now keep.now rows.now traced work.old out.old
+        work.new out.new result }
+{
+    let c = Call::new(Keying::Cid, false);
+    let ask = Request::new(name, keep, rows, traced);
+    cut(c, font, &ask, work, out)
+}
+
+// The subset of a name-keyed font with few work words: a bit for each glyph and each subroutine (document 02, Wish 10).
+pub fn subset_small(
+    font: &[u8],
+    name: &[u8],
+    keep: &[u16],
+    rows: &[u8],
+    traced: u8,
+    encoding: bool,
+    work: &mut [u32],
+    out: &mut [u8],
+) -> Result<Subsetted, Refusal>
+    ensures { CutsSmall false encoding font.now name.now keep.now rows.now traced work.old out.old
+        work.new out.new result }
+{
+    let c = Call::new(Keying::Name { encoding }, true);
+    let ask = Request::new(name, keep, rows, traced);
+    cut(c, font, &ask, work, out)
+}
+
+// The subset of a CID-keyed font with few work words.
+pub fn subset_cid_small(
+    font: &[u8],
+    name: &[u8],
+    keep: &[u16],
+    rows: &[u8],
+    traced: u8,
+    work: &mut [u32],
+    out: &mut [u8],
+) -> Result<Subsetted, Refusal>
+    ensures { CutsSmall true false font.now name.now keep.now rows.now traced work.old out.old
+        work.new out.new result }
+{
+    let c = Call::new(Keying::Cid, true);
+    let ask = Request::new(name, keep, rows, traced);
+    cut(c, font, &ask, work, out)
 }
