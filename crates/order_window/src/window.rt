@@ -37,12 +37,12 @@ impl Kept<'_> {
         word_at(&*self.window, i - self.o.held.from)
     }
 
-    // The i-th word of the order; the window is moved where it does not hold it.
+    // The i-th word of the order; the window is moved where it does not hold it, and holds it then.
     #[inline(always)]
     pub fn word(&mut self, i: usize) -> usize
         requires { i < self.old.o.count }
         ensures { (result ≡ get_or (order_of self.old) i 0) × (result < 4294967296) × (Stays self.old self.new)
-            × StaysAt i self.old self.new }
+            × (StaysAt i self.old self.new) × (self.new.o.held.from ≤ i) × (i < self.new.o.held.walk.done) }
     {
         if self.o.held.from <= i {
             if i < self.o.held.walk.done {
