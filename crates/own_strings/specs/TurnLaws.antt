@@ -39,7 +39,7 @@ unfolding entry_slots
 slots_length es [] = refl
 slots_length es (op ∷ ops) = ap suc (slots_length es ops)
 
-slots_at : (es : List Entry) (ops : List ℕ) (k : ℕ) → k < length ops → get_or (entry_slots es ops) k None ≡ id_in (get_or ops k 0) es
+pub slots_at : (es : List Entry) (ops : List ℕ) (k : ℕ) → k < length ops → get_or (entry_slots es ops) k None ≡ id_in (get_or ops k 0) es
 unfolding entry_slots
 slots_at es [] k h = absurd (omega arith)
 slots_at es (op ∷ ops) zero h = refl
