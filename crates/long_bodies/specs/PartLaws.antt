@@ -172,10 +172,10 @@ module _ (rec : List ℕ) (octets : Octets rec) (s : code.Site) (once : two_leng
   fill_room = omega (arith, length-take-le n keys g.window.fits, gathers-few g, lent.room)
 
   -- the end is behind the offset
-  fill_past : (end : ℕ) → end ≡ end_of keys n to → offset < end
+  pub fill_past : (end : ℕ) → end ≡ end_of keys n to → offset < end
   fill_past end is-end = omega (arith, is-end, end_past rec octets b kind_fits fd_fits few (site_of s) is once offset to past near old keys n g lent.some)
 
-  fill_end : (end : ℕ) → end ≡ end_of keys n to → end ≤ 4294967296
+  pub fill_end : (end : ℕ) → end ≡ end_of keys n to → end ≤ 4294967296
   fill_end end is-end = omega (arith, is-end, near, end_near rec octets b kind_fits fd_fits few (site_of s) is once offset to past near old keys n g lent.some)
 
   -- THE LAW of filling
