@@ -94,12 +94,14 @@ pub fn put_num(out: &mut [u8], at: usize, value: usize, size: usize) -> usize
     at + size
 }
 
-// Copies src to a place of out; returns the place after it.
+// Copies src to a place of out; returns the place after it. By a loop: copy_from_slice is memmove, which include/mogdivash.h does not ask for.
 pub fn put_bytes(out: &mut [u8], at: usize, src: &[u8]) -> usize
     requires { at + length src.now ≤ length out.old }
     ensures { Wrote out.old at src.now out.new result }
 {
     let n = src.len();
-    out[at..at + n].copy_from_slice(src);
+    for i in 0..n {
+        out[at + i] = src[i];
+    }
     at + n
 }
