@@ -77,9 +77,10 @@ fn first_failing(by: &Renumbering<'_, '_>) -> Option<u16>
         return Some(0);
     }
     let keep = by.list.keep;
-    for k in keep {
-        if !is_made(by, *k as usize) {
-            return Some(*k);
+    for i in 0..keep.len() {
+        let g = keep[i];
+        if !is_made(by, g as usize) {
+            return Some(g);
         }
     }
     None

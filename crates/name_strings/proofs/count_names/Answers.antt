@@ -1,5 +1,7 @@
 -- `count_names` meets its contract: each name is given its new id, and counted where that is the next.
 use Rattle.std.proofs.Common.{arith, get_or, length, ◌<◌, ◌≡◌}
+use Rattle.std.proofs.lemmas.List.{length-take}
+use Rattle.own_strings.specs.declared.slots.Slot.{Slot}
 use Rattle.own_strings.specs.IdsLaws.{given-long}
 use Rattle.order_window.specs.Stays.{order_of, stays-refl, stays-then, stays-word}
 use Rattle.name_strings.specs.NamingLaws.{naming-start, naming_asks, naming_counts, naming-next, naming_end, naming-bound}
@@ -22,7 +24,7 @@ pub count_one-all-requires : goal.count_one-all-requires
 count_one-all-requires c = naming_counts _ _ _ _ _ _ c.loop-i.invariant.1
 
 pub slice_bounds-given_id-end : goal.slice_bounds-given_id-end
-slice_bounds-given_id-end c = omega (arith, given-long _ c.args.slots.now c.requires.0.given)
+slice_bounds-given_id-end c = omega (arith, given-long _ c.args.slots.now c.requires.0.given, length-take {A = Slot})
 
 pub loop-i-preserved : goal.loop-i-preserved
 loop-i-preserved c = (
