@@ -19,6 +19,7 @@ use Rattle.dict.specs.Dict.{Entry, readings_from, readings_at, gathered, dict_of
 use Rattle.dict.specs.Op.{subrs}
 use Rattle.dict.specs.Lookup.{last_from, last_of, offset_in, private_in, private_there}
 use Rattle.dict.specs.Places.{refusal_of, listed, entries_of, Good as GoodDict}
+use Rattle.dict.specs.Held.{private_read}
 use Rattle.dict.proofs.LookupLaws.{good-entries}
 use Rattle.cff.specs.Font.{then, Private, index_got, locals_at, private_data, private_at, privates_at, empty_private}
 use Rattle.cff.specs.Find.{locals_words}
@@ -228,6 +229,18 @@ counted-found b size offset q reads w is place low =
 module _ (b d : List ℕ) where
   pub fd-read : refusal_of (dict_of d) ≡ None → (x : Result SeenPrivate Refusal) → ReadsNext b (private_at b (private_in (entries_of d))) x → ReadsNext b (fd_private b d) x
   fd-read checked x reads = subst (λ g. ReadsNext b g x) (sym (then-got _ (λ es. private_at b (private_in es)) (entries_of d) (dict-entries d (dict-good d checked)))) reads
+
+-- what is read of it names its Private DICT
+named-by : (b : List ℕ) (g : Result (List Entry) Refusal) → private_at b (private_read g) ≡ then g (λ es. private_at b (private_in es))
+unfolding private_at
+named-by b (Err n) = refl
+named-by b (Ok es) = refl
+
+pub fd-told : (b d : List ℕ) (x : Result SeenPrivate Refusal) → ReadsNext b (private_at b (private_read (dict_of d))) x → ReadsNext b (fd_private b d) x
+fd-told b d x reads = subst (λ g. ReadsNext b g x) (named-by b (dict_of d)) reads
+
+pub fd_unread : (b d : List ℕ) (n : Refusal) → Err n ≡ private_read (dict_of d) → fd_private b d ≡ Err n
+fd_unread b d n e = sym (named-by b (dict_of d)) ∙ private_refused b (private_read (dict_of d)) n e
 
 -- ---- all FDs'
 

@@ -6,7 +6,6 @@ ghost use Rattle.cff.specs.Alone.{all_known_prop};
 use crate::private::{PrivateWords, SeenPrivate, private_data};
 use crate::table::Table;
 use dict::PrivateEntry;
-use dict::placed::Dict;
 use refusal::Refusal;
 
 // The last 128 that were read, and the place for the next.
@@ -50,9 +49,7 @@ fn free_after(free: usize, place: usize) -> usize
 
 impl<'a> Remembered<'a> {
     ghost use Rattle.std.specs.Prelude.{◌≤◌};
-    ghost use Rattle.dict.specs.Lookup.{private_in};
-    ghost use Rattle.dict.specs.Held.{entries};
-    ghost use Rattle.cff.specs.Font.{private_data, private_at};
+    ghost use Rattle.cff.specs.Font.{private_data};
     ghost use Rattle.cff.specs.Reads.{fd_private, ReadsNext};
 
     // None so far.
@@ -98,22 +95,14 @@ impl<'a> Remembered<'a> {
         }
     }
 
-    // The next FD's Private DICT, as the FD's DICT d names it; where that names none, it is one of no bytes at 0.
-    fn next_private(&self, d: &Dict<'_>) -> Result<SeenPrivate, Refusal>
-        ensures { ReadsNext self.now.font.now (private_at self.now.font.now (private_in (entries d.now))) result }
-    {
-        match d.private_of()? {
-            None => self.seen_private(0, 0),
-            Some(PrivateEntry { size, offset }) => self.seen_private(size, offset),
-        }
-    }
-
-    // The Private DICT of the FD whose bytes are d.
+    // The Private DICT of the FD whose bytes are d: no more is asked of d. Where d names none, it is one of no bytes at 0.
     pub fn fd_private(&self, d: &[u8]) -> Result<SeenPrivate, Refusal>
         ensures { ReadsNext self.now.font.now (fd_private self.now.font.now d.now) result }
     {
-        let fd = dict::read_dict(d)?;
-        self.next_private(&fd)
+        match dict::read_private(d)? {
+            None => self.seen_private(0, 0),
+            Some(PrivateEntry { size, offset }) => self.seen_private(size, offset),
+        }
     }
 
     // One that was read is remembered: those read first are forgotten first.

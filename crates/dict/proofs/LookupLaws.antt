@@ -17,6 +17,7 @@ use Rattle.dict.specs.Dict.{Entry, Reading, stopped, got, entry_at, followed, re
 use Rattle.dict.specs.Lookup.{Operands, absent, operands, last_from, last_of, only, one_of, private_as, private_in, id_as, is_there, ros_as, ros_in, stroked_as, stroked_in}
 use Rattle.dict.specs.Op.{private, ros, paint_type}
 use Rattle.dict.specs.Proper.{AllNormal}
+use Rattle.dict.specs.Held.{private_read}
 use Rattle.dict.specs.Places.{refusal_of, listed, entries_of, Good, last_place, place_of, or_none, operands_at, found_at}
 use Rattle.dict.specs.TokenLaws.{Further, further}
 use Rattle.dict.proofs.WalkLaws.{before-refusal}
@@ -346,3 +347,16 @@ good-entries b g = gathered-listed b 0 (readings_at b 0) (chain b 0) g.accepted
 
 pub entries_are : (b : List ℕ) (es : List Entry) → dict_of b ≡ Ok es → entries_of b ≡ es
 entries_are b es e = let g = good-entries b (record { accepted = ap refusal_of e }) in cc
+
+-- ---- its Private entry
+
+unread : (g : Result (List Entry) Refusal) (n : Refusal) → refusal_of g ≡ Some n → Err n ≡ private_read g
+unread (Err m) n e = let k : m ≡ n = cc in ap Err (sym k)
+unread (Ok es) n e = absurd (no cc)
+
+module _ (b : List ℕ) where
+  pub private_unread : (n : Refusal) → refusal_of (dict_of b) ≡ Some n → Err n ≡ private_read (dict_of b)
+  private_unread n e = unread (dict_of b) n e
+
+  pub private_told : refusal_of (dict_of b) ≡ None → (x : Result (Option PrivateEntry) Refusal) → x ≡ private_in (entries_of b) → x ≡ private_read (dict_of b)
+  private_told e x h = h ∙ sym (ap private_read (good-entries b (record { accepted = e })))

@@ -9,9 +9,10 @@ pub mod placed;
 ghost use Rattle.std.specs.Prelude.{◌≡◌, [], ◌∷◌, ◌+◌, ◌<◌, length, get_or, None};
 ghost use Rattle.decimal.specs.Decimal.{nought};
 ghost use Rattle.dict.specs.Dict.{operator_at, token_at, entry_at, dict_of};
-ghost use Rattle.dict.specs.Lookup.{operands, private_as, ros_as};
-ghost use Rattle.dict.specs.Places.{token_told, entry_told, refusal_of, place_of, operands_at};
-ghost use Rattle.dict.specs.Held.{ReadsDict};
+ghost use Rattle.dict.specs.Op.{private};
+ghost use Rattle.dict.specs.Lookup.{operands, private_as, private_in, ros_as};
+ghost use Rattle.dict.specs.Places.{token_told, entry_told, entries_of, refusal_of, place_of, operands_at};
+ghost use Rattle.dict.specs.Held.{ReadsDict, ReadsPlace, private_read};
 
 use crate::entries::Entries;
 use crate::op::{Op, slot};
@@ -174,9 +175,29 @@ fn note_entries(d: &[u8], subsetting: bool) -> Result<Dict<'_>, Refusal>
     })
 }
 
-// Where the last entry of an operator stands: one pass.
-fn find_entry(d: &[u8], op: usize) -> Option<OperandsAt>
-    ensures { result ≡ place_of op d.now }
+// A DICT read in one pass for one operator alone: its refusal, or where the operator's last entry stands. Nothing else is noted: a font can have 65,535 Font
+// DICTs of one entry each, and a table takes longer to fill than such a DICT to read.
+pub fn read_one(d: &[u8], op: usize) -> Result<Option<OperandsAt>, Refusal>
+    ensures { ReadsPlace d.now op result }
+{
+    let (found, refusal) = find_entry(d, op);
+    match refusal {
+        None => Ok(found),
+        Some(n) => Err(n),
+    }
+}
+
+// Where the Private DICT is that a DICT names, if it names one: one pass over the DICT, for its refusal, or that of the entry.
+pub fn read_private(d: &[u8]) -> Result<Option<PrivateEntry>, Refusal>
+    ensures { result ≡ private_read (dict_of d.now) }
+{
+    let found = read_one(d, Op::PRIVATE)?;
+    private_found(d, found)
+}
+
+// Where the last entry of an operator stands, of those before a refusal of the DICT, and that refusal: one pass.
+fn find_entry(d: &[u8], op: usize) -> (Option<OperandsAt>, Option<Refusal>)
+    ensures { (result.0 ≡ place_of op d.now) × (result.1 ≡ refusal_of (dict_of d.now)) }
 {
     let mut found = None;
     for entry in Entries::new(d) {
@@ -189,10 +210,10 @@ fn find_entry(d: &[u8], op: usize) -> Option<OperandsAt>
                     });
                 }
             }
-            Err(_) => return found,
+            Err(n) => return (found, Some(n)),
         }
     }
-    found
+    (found, None)
 }
 
 // A DICT of which nothing is noted.
@@ -230,6 +251,22 @@ pub fn operand(d: &[u8], start: usize, k: usize) -> Decimal
         }
     }
     NOUGHT
+}
+
+// The Private entry whose operands stand at the place that was found, if it was found.
+fn private_found(d: &[u8], found: Option<OperandsAt>) -> Result<Option<PrivateEntry>, Refusal>
+    requires { found ≡ place_of private d.now }
+    ensures { result ≡ private_in (entries_of d.now) }
+{
+    match found {
+        None => Ok(None),
+        Some(OperandsAt { start, count }) => {
+            if count == 2 {
+                return private_at(operand(d, start, 0), operand(d, start, 1));
+            }
+            Err(Refusal::Malformed)
+        }
+    }
 }
 
 // The size and the offset of a Private entry: the signs are tested first, then the fractions dropped.

@@ -3,7 +3,9 @@ ghost use Rattle.dict.specs.Noted.{Placed};
 ghost use Rattle.dict.specs.Alone.{placed_prop};
 
 use crate::op::{Op, slot, slots};
-use crate::{OperandsAt, Places, PrivateEntry, RosEntry, find_entry, operand, private_at, ros_at};
+use crate::{
+    OperandsAt, Places, PrivateEntry, RosEntry, find_entry, operand, private_found, ros_at,
+};
 use decimal::{Decimal, id_of, is_two, offset_of, to_u32};
 use refusal::Refusal;
 
@@ -30,7 +32,7 @@ impl Dict<'_> {
                 return places.last[j];
             }
         }
-        find_entry(self.bytes, op)
+        find_entry(self.bytes, op).0
     }
 
     // The one operand of an operator's last entry, if it has one.
@@ -120,16 +122,7 @@ impl Dict<'_> {
     pub fn private_of(&self) -> Result<Option<PrivateEntry>, Refusal>
         ensures { result ≡ private_in (entries self.now) }
     {
-        let d = self.bytes;
-        match self.place(Op::PRIVATE) {
-            None => Ok(None),
-            Some(OperandsAt { start, count }) => {
-                if count == 2 {
-                    return private_at(operand(d, start, 0), operand(d, start, 1));
-                }
-                Err(Refusal::Malformed)
-            }
-        }
+        private_found(self.bytes, self.place(Op::PRIVATE))
     }
 
     // The registry, ordering and supplement of a CID-keyed font, if ROS has three operands.
