@@ -2,6 +2,8 @@
 // and written. The kept glyphs come from windows of their order (document 02, Wish 10), once for all codes.
 #![tactic(auto)]
 
+pub mod numbered;
+
 ghost use Rattle.std.specs.Prelude.{◌≡◌, ◌+◌, ◌≤◌, ◌<◌, length, take};
 ghost use Rattle.octets.specs.Out.{Writes};
 ghost use Rattle.cff.specs.Reads.{program_of};
