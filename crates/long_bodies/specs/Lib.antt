@@ -4,3 +4,4 @@ pub mod PartLaws
 pub mod WalkLaws
 pub mod Examples
 pub mod Alone
+pub mod AnySites

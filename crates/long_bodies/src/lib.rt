@@ -3,6 +3,7 @@
 // record that rises is crate `renumbered`'s: its loops ask no more than it needs.
 #![tactic(auto)]
 
+pub mod any_site;
 pub mod long_body;
 pub mod long_site;
 pub mod offsets;
@@ -115,7 +116,7 @@ pub fn renumbered_len(one: &LongBody<'_>, lent: &mut Lent<'_>) -> Option<usize>
     ensures { (result ≡ sized_of (renumbered_of one.now.body.now)) × SameRoom lent.old lent.new }
 {
     let body = one.body;
-    if offsets::two_lengths(body.rows.bytes, body.site, &mut *lent.keys) {
+    if offsets::two_lengths_of(body.rows.bytes, body.site, &mut *lent.keys) {
         return None;
     }
     body_len(one, lent)
