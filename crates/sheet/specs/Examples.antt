@@ -5,7 +5,7 @@ use Rattle.refusal.specs.declared.Refusal.TheVariants.{Output}
 use Rattle.hexlines.specs.Hexlines.{hex_value_lem, octet_of, is_hex_lem, spelt, digit_of, hex_text}
 use Rattle.cases.specs.Lines.{lines_of}
 use Rattle.subset.specs.Cut.{refused, subset}
-use Rattle.sheet.specs.Sheet.{hex_up_to, is_kept, hex_of, all_rows, filled, are_rows, row_bytes, pairs, is_sheet_lem, sheet_in, sheet_of, in_lines, printed, answer_to, cut_sheet}
+use Rattle.sheet.specs.Sheet.{hex_up_to, is_kept, hex_of, all_rows, filled, are_rows, row_bytes, pairs, is_sheet_lem, sheet_in, sheet_of, in_lines, subset_lines, printed, answer_to, cut_sheet}
 use Rattle.subset.specs.declared.Way.TheVariants.{Renumbered}
 
 -- document 01's font, input, subset and output
@@ -65,6 +65,11 @@ short_row = refl
 document-printed : printed (subset Renumbered the_subset) ≡ the_output
 unfolding printed in_lines hex_text digit_of bytes_of
 document-printed = refl
+
+-- 7 names no way
+number-printed : subset_lines 7 (65 ∷ []) ≡ 48 ∷ 55 ∷ 48 ∷ 48 ∷ 48 ∷ 48 ∷ 48 ∷ 48 ∷ 48 ∷ 49 ∷ 10 ∷ 52 ∷ 49 ∷ 10 ∷ []
+unfolding in_lines hex_text digit_of bytes_of
+number-printed = refl
 
 -- `ff0b`, refusal 11
 refusal-printed : printed (refused Output) ≡ 102 ∷ 102 ∷ 48 ∷ 98 ∷ 10 ∷ []

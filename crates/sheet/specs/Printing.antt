@@ -4,9 +4,11 @@ use Rattle.std.proofs.Common.{sym, ap, ◌∙◌, arith, add-one, eq-eqb, ne_eqb
 use Rattle.std.proofs.Math.Seq.{drop-length}
 use Rattle.octets.specs.Pick.{pick}
 use Rattle.octets.specs.Octets.{bytes_of}
+use Rattle.octets.specs.Out.{Writes}
+use Rattle.octets.specs.declared.out.Out.{Out}
 use Rattle.hexlines.specs.Hexlines.{digit_of, hex_text}
 use Rattle.subset.specs.Cut.{subset}
-use Rattle.sheet.specs.Sheet.{in_lines, refusal_line, printed}
+use Rattle.sheet.specs.Sheet.{in_lines, refusal_line, subset_lines, printed}
 use Rattle.subset.specs.declared.Way.{Way}
 use Rattle.subset.specs.Way.{way_number}
 
@@ -33,17 +35,20 @@ pub text-four : (v : ℕ) → hex_text (bytes_of 2 (v / 256 / 256)) ++ hex_text 
 unfolding hex_text bytes_of
 text-four v = refl
 
--- the way, the length and a line feed
-unfoldable pub head_bytes : Way → ℕ → List ℕ
-head_bytes way n = hex_text (way_number way ∷ bytes_of 4 n) ++ (10 ∷ [])
+-- the number of the way, the length and a line feed
+unfoldable pub head_bytes : ℕ → ℕ → List ℕ
+head_bytes way n = hex_text (way ∷ bytes_of 4 n) ++ (10 ∷ [])
 
-pub head-parts : (way : Way) (n : ℕ) → hex_text (way_number way ∷ []) ++ (hex_text (bytes_of 4 n) ++ (10 ∷ [])) ≡ head_bytes way n
+pub head-parts : (way n : ℕ) → hex_text (way ∷ []) ++ (hex_text (bytes_of 4 n) ++ (10 ∷ [])) ≡ head_bytes way n
 unfolding head_bytes hex_text bytes_of
 head-parts way n = refl
 
-pub head-length : (way : Way) (n : ℕ) → length (head_bytes way n) ≡ 11
+pub head-length : (way n : ℕ) → length (head_bytes way n) ≡ 11
 unfolding head_bytes hex_text bytes_of
 head-length way n = refl
+
+pub head-behind : (way n : ℕ) {old new : Out} → Writes old (head_bytes way n) new → new.at ≡ old.at + 11
+head-behind way n w = omega (arith, w.wrote.behind, head-length way n)
 
 pub text-length : (b : ℕ) → length (hex_text (b ∷ [])) ≡ 2
 unfolding hex_text
@@ -57,9 +62,17 @@ pub two-length : (n : ℕ) → length (hex_text (bytes_of 2 n)) ≡ 4
 unfolding hex_text bytes_of
 two-length n = refl
 
-pub subset-parts : (way : Way) (bs : List ℕ) → head_bytes way (length bs) ++ in_lines 0 bs ≡ printed (subset way bs)
-unfolding head_bytes hex_text bytes_of printed
-subset-parts way bs = refl
+pub way-parts : (way : ℕ) (bs : List ℕ) → head_bytes way (length bs) ++ in_lines 0 bs ≡ subset_lines way bs
+unfolding head_bytes hex_text bytes_of
+way-parts way bs = refl
+
+-- a subset is printed by the number of its way
+pub way-told : (way : Way) (bs : List ℕ) → subset_lines (way_number way) bs ≡ printed (subset way bs)
+unfolding printed
+way-told way bs = refl
+
+pub subset-parts : (way : Way) (bs : List ℕ) → head_bytes (way_number way) (length bs) ++ in_lines 0 bs ≡ printed (subset way bs)
+subset-parts way bs = way-parts (way_number way) bs ∙ way-told way bs
 
 -- ---- bytes in lines
 
@@ -146,13 +159,19 @@ lines-length (b ∷ bs) col =
     let e : length (in_lines col (b ∷ bs)) ≤ 3 * suc (length bs) + 1 = omega (arith, n, cell-length b col, lines-length bs (next_col col)) in
     e
 
+pub way-length : (way : ℕ) (bs : List ℕ) → length (subset_lines way bs) ≡ 11 + length (in_lines 0 bs)
+way-length way bs =
+    let n = ap length (sym (way-parts way bs)) ∙ length-append (head_bytes way (length bs)) (in_lines 0 bs) in
+    omega (arith, n, head-length way (length bs))
+
+pub way-room : (way : ℕ) (bs : List ℕ) → length (subset_lines way bs) ≤ 3 * length bs + 12
+way-room way bs = omega (arith, way-length way bs, lines-length bs 0)
+
 -- a subset of 32,768 bytes is printed in up to 98,316
 pub printed-length : (way : Way) (bs : List ℕ) → length (printed (subset way bs)) ≤ 3 * length bs + 12
-printed-length way bs =
-    let n = ap length (sym (subset-parts way bs)) ∙ length-append (head_bytes way (length bs)) (in_lines 0 bs) in
-    omega (arith, n, head-length way (length bs), lines-length bs 0)
+unfolding printed
+printed-length way bs = way-room (way_number way) bs
 
 pub subset-length : (way : Way) (bs : List ℕ) → length (printed (subset way bs)) ≡ 11 + length (in_lines 0 bs)
-subset-length way bs =
-    let n = ap length (sym (subset-parts way bs)) ∙ length-append (head_bytes way (length bs)) (in_lines 0 bs) in
-    omega (arith, n, head-length way (length bs))
+unfolding printed
+subset-length way bs = way-length (way_number way) bs

@@ -98,10 +98,14 @@ in_lines col (b ∷ bs) = hex_text (b ∷ []) ++ pick (eqb col 15) (10 ∷ in_li
 abbrev pub refusal_line : ℕ → List ℕ
 refusal_line n = hex_text (255 ∷ n ∷ []) ++ (10 ∷ [])
 
--- a refusal: `ff` and the number; else the way (2 digits) and the length (8), then the bytes
+-- the number of a way, or any other (2 digits), and the length (8), then the bytes
+abbrev pub subset_lines : ℕ → List ℕ → List ℕ
+subset_lines way bs = hex_text (way ∷ bytes_of 4 (length bs)) ++ (10 ∷ in_lines 0 bs)
+
+-- a refusal, by its number; else the subset, by the number of its way
 unfoldable pub printed : Outcome → List ℕ
 printed (refused n) = refusal_line (number_of n)
-printed (subset way bs) = hex_text (way_number way ∷ bytes_of 4 (length bs)) ++ (10 ∷ in_lines 0 bs)
+printed (subset way bs) = subset_lines (way_number way) bs
 
 -- ---- the program
 

@@ -3,12 +3,10 @@ ghost use Rattle.std.specs.Prelude.{◌≡◌, [], ◌∷◌, ◌+◌, ◌≤◌
 ghost use Rattle.octets.specs.Octets.{bytes_of, Wrote};
 ghost use Rattle.octets.specs.Out.{Writes};
 ghost use Rattle.hexlines.specs.Hexlines.{digit_of, hex_text};
-ghost use Rattle.subset.specs.Cut.{subset};
-ghost use Rattle.sheet.specs.Sheet.{in_lines, refusal_line, printed};
+ghost use Rattle.sheet.specs.Sheet.{in_lines, refusal_line, subset_lines};
 ghost use Rattle.sheet.specs.Printing.{head_bytes, cell_bytes, next_col};
 
 use octets::out::Out;
-use subset::Way;
 
 // The digit of a value below 16.
 fn digit(v: u8) -> u8
@@ -49,12 +47,12 @@ fn put_four(v: usize, out: &mut Out<'_>)
     put_two(v, out);
 }
 
-// The first line of a subset: its way and its length.
-fn put_head(way: Way, n: usize, out: &mut Out<'_>)
+// The first line of a subset: the number of its way and its length.
+fn put_head(way: u8, n: usize, out: &mut Out<'_>)
     requires { out.old.at + 11 ≤ length out.old.bytes.now }
     ensures { Writes out.old (head_bytes way n) out.new }
 {
-    put_octet(way.number(), out);
+    put_octet(way, out);
     put_four(n, out);
     out.byte(b'\n');
 }
@@ -111,10 +109,10 @@ pub fn put_refused(n: u8, out: &mut [u8]) -> usize
     to.at
 }
 
-// Writes what is printed of a subset to the start of out; returns its length.
-pub fn put_subset(way: Way, bytes: &[u8], out: &mut [u8]) -> usize
-    requires { length (printed (subset way bytes.now)) ≤ length out.old }
-    ensures { Wrote out.old 0 (printed (subset way bytes.now)) out.new result }
+// Writes what is printed of a subset to the start of out; returns its length. The way is its number, and any other number is printed as it is.
+pub fn put_subset(way: u8, bytes: &[u8], out: &mut [u8]) -> usize
+    requires { length (subset_lines way bytes.now) ≤ length out.old }
+    ensures { Wrote out.old 0 (subset_lines way bytes.now) out.new result }
 {
     let mut to = Out { bytes: out, at: 0 };
     put_head(way, bytes.len(), &mut to);

@@ -14,12 +14,13 @@ use Rattle.refusal.specs.declared.Refusal.TheVariants.{Unsupported}
 use Rattle.cff.specs.Font.{read_font}
 use Rattle.cff.specs.Find.{work_size}
 use Rattle.subset.specs.Cut.{Outcome, refused, subset, cut_of, leaves_out, leaves_work}
+use Rattle.subset.specs.Way.{way_number}
 use Rattle.faithful.specs.Faithful.{Faithful}
 use Rattle.faithful.specs.Codes.{KeepsCodes}
 use Rattle.outcome.specs.Entry.{answer_of, work_in, Cuts}
 use Rattle.outcome.specs.declared.Subsetted.{Subsetted}
-use Rattle.sheet.specs.Sheet.{Sheet, keying, refusal_line, printed, cut_of_sheet, answer_to, sheet_of, cut_sheet}
-use Rattle.sheet.specs.Printing.{printed-length}
+use Rattle.sheet.specs.Sheet.{Sheet, keying, refusal_line, subset_lines, printed, cut_of_sheet, answer_to, sheet_of, cut_sheet}
+use Rattle.sheet.specs.Printing.{way-room, way-told}
 use Rattle.sheet.specs.Reading.{Reads, parts}
 use Rattle.sheet.specs.Taking.{Took}
 use Rattle.sheet.specs.declared.reading.Parts.{Parts}
@@ -103,15 +104,25 @@ pub refused_told : (a : Result Subsetted Refusal) (n : Refusal) (k : ℕ) (out :
 unfolding printed
 refused_told a n k out e f = ap refusal_line f ∙ sym (ap (λ (x : Result Subsetted Refusal). printed (outcome_in x out)) e)
 
+pub subset-told : (a : Result Subsetted Refusal) (s : Subsetted) (k : ℕ) (out : List ℕ) → a ≡ Ok s → k ≡ way_number s.way
+    → subset_lines k (take s.len out) ≡ printed (outcome_in a out)
+subset-told a s k out e f =
+    ap (λ (i : ℕ). subset_lines i (take s.len out)) f ∙ way-told s.way (take s.len out) ∙ sym (ap (λ (x : Result Subsetted Refusal). printed (outcome_in x out)) e)
+
 pub subset-within : (a : Result Subsetted Refusal) (s : Subsetted) (out : List ℕ) → a ≡ Ok s → length_in a ≤ length out → s.len ≤ length out
 subset-within a s out e h = subst (λ (x : Result Subsetted Refusal). length_in x ≤ length out) e h
 
 -- room for three bytes for each of the output and 12 more is enough
+pub number-room : (a : Result Subsetted Refusal) (s : Subsetted) (way : ℕ) (out : List ℕ) (room : ℕ) → a ≡ Ok s → length_in a ≤ length out → 3 * length out + 12 ≤ room
+    → length (subset_lines way (take s.len out)) ≤ room
+number-room a s way out room e h k =
+    let w = subset-within a s out e h in
+    omega (arith, k, w, way-room way (take s.len out), length-take-le s.len out w)
+
 pub subset-room : (a : Result Subsetted Refusal) (s : Subsetted) (out : List ℕ) (room : ℕ) → a ≡ Ok s → length_in a ≤ length out → 3 * length out + 12 ≤ room
     → length (printed (subset s.way (take s.len out))) ≤ room
-subset-room a s out room e h k =
-    let w = subset-within a s out e h in
-    omega (arith, k, w, printed-length s.way (take s.len out), length-take-le s.len out w)
+unfolding printed
+subset-room a s out room e h k = number-room a s (way_number s.way) out room e h k
 
 -- ---- the answer and the output of a call
 

@@ -53,7 +53,7 @@ fn put_answer(answer: Result<Subsetted, Refusal>, out: &[u8], page: &mut [u8]) -
 {
     match answer {
         Err(e) => put_refused(e.number(), page),
-        Ok(c) => put_subset(c.way, &out[..c.len], page),
+        Ok(c) => put_subset(c.way.number(), &out[..c.len], page),
     }
 }
 
