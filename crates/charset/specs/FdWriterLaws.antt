@@ -157,17 +157,17 @@ last_known last [] = refl
 last_known last (x ∷ fds) = last_known x fds
 
 module _ (fds : List ℕ) (fd : ℕ) where
-  known : is_last (last_fd (Some 256) fds) fd ≡ eqb (last_pushed 256 fds) fd
-  known = ap (λ (l : Option ℕ). is_last l fd) (last_known 256 fds)
+  tested : is_last (last_fd (Some 256) fds) fd ≡ eqb (last_pushed 256 fds) fd
+  tested = ap (λ (l : Option ℕ). is_last l fd) (last_known 256 fds)
 
   pub pushed-same : fd ≡ last_pushed 256 fds → ranges_of (fds ++ (fd ∷ [])) ≡ ranges_of fds
   pushed-same h =
-      let t : is_last (last_fd (Some 256) fds) fd ≡ true = known ∙ eq-eqb (last_pushed 256 fds) fd (sym h) in
+      let t : is_last (last_fd (Some 256) fds) fd ≡ true = tested ∙ eq-eqb (last_pushed 256 fds) fd (sym h) in
       changes_snoc (Some 256) 0 fds fd ∙ rw t (append-nil (ranges_of fds))
 
   pub pushed-new : (fd ≡ last_pushed 256 fds → ⊥) → ranges_of (fds ++ (fd ∷ [])) ≡ ranges_of fds ++ ((length fds, fd) ∷ [])
   pushed-new h =
-      let t : is_last (last_fd (Some 256) fds) fd ≡ false = known ∙ ne_eqb (last_pushed 256 fds) fd (λ e. h (sym e)) in
+      let t : is_last (last_fd (Some 256) fds) fd ≡ false = tested ∙ ne_eqb (last_pushed 256 fds) fd (λ e. h (sym e)) in
       let e : 0 + length fds ≡ length fds = omega arith in
       changes_snoc (Some 256) 0 fds fd ∙ rw (t, e) refl
 
