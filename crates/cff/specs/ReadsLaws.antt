@@ -1,5 +1,5 @@
 -- Laws of reading: one step's answer for the next, in place.
-use Rattle.std.specs.Prelude.{ℕ, zero, suc, ◌+◌, ◌*◌, ◌≤◌, ◌<◌, ◌≡◌, refl, Bool, true, false, ◌&&◌, All, eqb, length, get_or, replicate, None, Option, Some, Result, Ok, Err, IfOk}
+use Rattle.std.specs.Prelude.{ℕ, zero, suc, ◌+◌, ◌*◌, ◌≤◌, ◌<◌, min, ◌≡◌, refl, Bool, true, false, ◌&&◌, All, eqb, length, get_or, replicate, None, Option, Some, Result, Ok, Err, IfOk}
 use Rattle.std.proofs.Common.{sym, ◌∙◌, add-one, lt-ltb, le-ltb, eqb-true, lit≤, lit<, drop-cons}
 use Rattle.std.proofs.Math.Path.{ap, subst}
 use mathlib.Core.List.{List, [], ◌∷◌}
@@ -7,6 +7,7 @@ use native.Mathlib.Omega.{arith}
 use Rattle.std.proofs.lemmas.List.Elements.{All-get_or, All-replicate}
 use Rattle.std.proofs.lemmas.List.Quantifiers.{position-Some}
 use Rattle.std.proofs.Math.ListN.{drop}
+use Rattle.std.proofs.Math.Nat.{min-le_right}
 use Rattle.std.proofs.Math.Seq.{drop-nil}
 use Rattle.bits.specs.Bits.{words_for}
 use Rattle.octets.specs.Octets.{Octets}
@@ -17,7 +18,11 @@ use Rattle.index.proofs.FoundLaws.{found-good, found-count, read_found, read_ref
 use Rattle.index.specs.declared.Index.{Index}
 use Rattle.dict.specs.Dict.{Entry, readings_from, readings_at, gathered, dict_of}
 use Rattle.dict.specs.Op.{subrs}
-use Rattle.dict.specs.Lookup.{last_from, last_of, offset_in, private_in, private_there}
+use Rattle.decimal.specs.Values.{trunc_of}
+use Rattle.decimal.specs.declared.Decimal.{Decimal}
+use Rattle.octets.specs.Pick.{pick}
+use Rattle.dict.specs.Op.{private}
+use Rattle.dict.specs.Lookup.{Operands, absent, operands, last_from, last_of, one_of, offset_told, offset_as, offset_in, private_as, private_in, private_there}
 use Rattle.dict.specs.Places.{refusal_of, listed, entries_of, Good as GoodDict}
 use Rattle.dict.specs.Held.{private_read}
 use Rattle.dict.proofs.LookupLaws.{good-entries}
@@ -29,7 +34,7 @@ use Rattle.cff.specs.declared.private.PrivateWords.{PrivateWords}
 use Rattle.cff.specs.declared.private.SeenPrivate.{SeenPrivate}
 use Rattle.dict.specs.declared.PrivateEntry.{PrivateEntry}
 use Rattle.refusal.specs.declared.Refusal.{Refusal}
-use Rattle.refusal.specs.declared.Refusal.TheVariants.{Truncated}
+use Rattle.refusal.specs.declared.Refusal.TheVariants.{Truncated, Malformed}
 
 pub no : ◌≡◌ {A = ℕ} 0 1 → ⊥
 no h = omega arith
@@ -93,6 +98,45 @@ empty-dict = record { accepted = refl }
 pub empty-entries : entries_of [] ≡ []
 unfolding readings_at readings_from listed
 empty-entries = refl
+
+-- ---- offsets and sizes of a DICT are below 2^32, or stand for all past every font
+
+small-pick : (s t : Bool) (m v : ℕ) → m ≤ 4294967296 → offset_told (pick s (Err Malformed) (pick t (Ok m) (Err Malformed))) ≡ Ok (Some v) → v ≤ 4294967296
+small-pick true t m v k h = absurd (no cc)
+small-pick false true m v k h = let e : m ≡ v = cc in omega arith
+small-pick false false m v k h = absurd (no cc)
+
+small_one : (o : Option Decimal) (v : ℕ) → offset_as o ≡ Ok (Some v) → v ≤ 4294967296
+small_one None v h = absurd (no cc)
+small_one (Some d) v h = small-pick d.neg (eqb d.down 0) (min (trunc_of d) 4294967296) v (min-le_right _ _) h
+
+pub offset-small : (op : ℕ) (es : List Entry) (r : Result (Option ℕ) Refusal) (v : ℕ) → r ≡ offset_in op es → r ≡ Ok (Some v) → v ≤ 4294967296
+offset-small op es r v e f = small_one (one_of op es) v (sym e ∙ f)
+
+same_entry : (p q : PrivateEntry) (r s : Result (Option PrivateEntry) Refusal) → r ≡ Ok (Some p) → s ≡ Ok (Some q) → r ≡ s → p ≡ q
+same_entry p q r s a b h = cc
+
+small-pair : (s t : Bool) (m n size offset : ℕ) → m ≤ 4294967296 → n ≤ 4294967296
+    → pick s (Err Malformed) (pick t (Err Malformed) (private_there m n)) ≡ private_there size offset → (size ≤ 4294967296) × (offset ≤ 4294967296)
+small-pair true t m n size offset j k h = absurd (no cc)
+small-pair false true m n size offset j k h = absurd (no cc)
+small-pair false false m n size offset j k h =
+    let q = same_entry (record { size = m; offset = n }) (record { size = size; offset = offset }) (private_there m n) (private_there size offset) refl refl h in
+    let e : m ≡ size = ap (λ (x : PrivateEntry). x.size) q in
+    let f : n ≡ offset = ap (λ (x : PrivateEntry). x.offset) q in
+    (omega arith, omega arith)
+
+small-private : (p : Operands) (size offset : ℕ) → private_as p ≡ private_there size offset → (size ≤ 4294967296) × (offset ≤ 4294967296)
+small-private absent size offset h = absurd (no cc)
+small-private (operands []) size offset h = absurd (no cc)
+small-private (operands (s ∷ [])) size offset h = absurd (no cc)
+small-private (operands (s ∷ o ∷ [])) size offset h =
+    small-pair s.neg o.neg (min (trunc_of s) 4294967296) (min (trunc_of o) 4294967296) size offset (min-le_right _ _) (min-le_right _ _) h
+small-private (operands (s ∷ o ∷ d ∷ ds)) size offset h = absurd (no cc)
+
+pub private-small : (es : List Entry) (r : Result (Option PrivateEntry) Refusal) (size offset : ℕ) → r ≡ private_in es → r ≡ private_there size offset
+    → (size ≤ 4294967296) × (offset ≤ 4294967296)
+private-small es r size offset e f = small-private (last_of private es) size offset (sym e ∙ f)
 
 -- ---- a step and the next
 

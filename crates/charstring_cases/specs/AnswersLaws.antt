@@ -8,6 +8,7 @@ use borrow.Author.Tests.{eq-eqb, ne_eqb, lt-ltb, le-ltb, le-leb, lt-leb}
 use Rattle.octets.specs.Pick.{pick, pick_ind}
 use Rattle.octets.specs.Octets.{be, num_at, bytes_of, Wrote}
 use Rattle.octets.specs.OctetsLaws.{length-bytes}
+use Rattle.octets.specs.PutLaws.{wrote_as}
 use Rattle.type2_number.specs.Number.{is_neg, mag, Read, cut, operator, number, number_at}
 use Rattle.type2_number.specs.Floats.{scaled_of}
 use Rattle.type2_number.specs.Answers.{number_of}
@@ -216,19 +217,26 @@ pairs-within s a m p (suc n) h =
 pub part-length : (s : List ℕ) (n : ℕ) → 1 + 4 * n ≤ length s → length (take (1 + 4 * n - 1) (drop 1 s)) ≡ 4 * n
 part-length s n h = let m = length-take-le (1 + 4 * n - 1) (drop 1 s) (rw length-drop (omega arith)) in omega (arith, m)
 
--- the pairs as they were lent, and the rest of the input
+-- the pairs of the input, and the rest of it
+pub stream-written : (t : Bool) (s old new : List ℕ) (n k : ℕ) → n ≡ get_or s 0 0 → Wrote old 0 (pairs_at s 1 (2 * n)) new k
+    → stream_bytes t (lookup (take k new)) (take (length s - (1 + 4 * n)) (drop (1 + 4 * n) s))
+    ≡ stream_bytes t (lookup (pairs_at s 1 (2 * get_or s 0 0))) (drop (1 + 4 * get_or s 0 0) s)
+stream-written t s old new n k e w =
+    let r : take (length s - (1 + 4 * n)) (drop (1 + 4 * n) s) ≡ drop (1 + 4 * n) s = take_all (length s - (1 + 4 * n)) (drop (1 + 4 * n) s) (rw length-drop (omega arith)) in
+    ap (λ (l : List ℕ). stream_bytes t (lookup l) (take (length s - (1 + 4 * n)) (drop (1 + 4 * n) s))) (wrote-front w)
+    ∙ ap (stream_bytes t (lookup (pairs_at s 1 (2 * n)))) r
+    ∙ ap (λ (m : ℕ). stream_bytes t (lookup (pairs_at s 1 (2 * m))) (drop (1 + 4 * m) s)) e
+
+-- the same where the pairs were read in the part that has them
 pub stream_parts : (t : Bool) (s old new : List ℕ) (n k : ℕ) → n ≡ get_or s 0 0 → 1 + 4 * n ≤ length s
     → (let part = take (1 + 4 * n - 1) (drop 1 s) in Wrote old 0 (pairs_at part 0 (length part / 2)) new k)
     → stream_bytes t (lookup (take k new)) (take (length s - (1 + 4 * n)) (drop (1 + 4 * n) s))
     ≡ stream_bytes t (lookup (pairs_at s 1 (2 * get_or s 0 0))) (drop (1 + 4 * get_or s 0 0) s)
 stream_parts t s old new n k e h w =
     let part = take (1 + 4 * n - 1) (drop 1 s) in
-    let r : take (length s - (1 + 4 * n)) (drop (1 + 4 * n) s) ≡ drop (1 + 4 * n) s = take_all (length s - (1 + 4 * n)) (drop (1 + 4 * n) s) (rw length-drop (omega arith)) in
     let q : length part / 2 ≡ 2 * n = omega (arith, part-length s n h) in
     let p : pairs_at part 0 (length part / 2) ≡ pairs_at s 1 (2 * n) = ap (pairs_at part 0) q ∙ pairs-within s 1 (1 + 4 * n - 1) 0 (2 * n) (omega arith) in
-    ap (λ (l : List ℕ). stream_bytes t (lookup l) (take (length s - (1 + 4 * n)) (drop (1 + 4 * n) s))) (wrote-front w ∙ p)
-    ∙ ap (stream_bytes t (lookup (pairs_at s 1 (2 * n)))) r
-    ∙ ap (λ (m : ℕ). stream_bytes t (lookup (pairs_at s 1 (2 * m))) (drop (1 + 4 * m) s)) e
+    stream-written t s old new n k e (wrote_as w p)
 
 -- ---- by the kind
 

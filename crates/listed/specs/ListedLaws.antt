@@ -186,13 +186,18 @@ none-clear seen (suc n) j h =
     turned true a b e = refl
     turned false a b e = e
 
--- beside a window whose marks were all clear
-pub window-seen : (l ks old new : List ℕ) → length l ≤ 65536 → old ≡ replicate 65536 0 → Seen l ks old new
-    → not (list_any (λ x. eqb x 0) (take (length l) new)) ≡ all_in ks l
-window-seen l ks old new h z s =
-    none-clear new (length l) 0 (omega (arith, h, s.size, ap length z, length-replicate {A = ℕ} 65536 0))
+-- beside a window whose marks were all clear, of any length: each is met
+pub window-each : (l ks old new : List ℕ) (n : ℕ) → length l ≡ n → old ≡ replicate 65536 0 → Seen l ks old new → each_of (marked new) n 0 ≡ all_in ks l
+window-each l ks old new n e z s =
+    ap (λ (m : ℕ). each_of (marked new) m 0) (sym e)
     ∙ each_all (marked new) (λ k. is_in k ks) l 0
     (λ i h. let z : 0 + i ≡ i = omega arith in ap (marked new) z ∙ s.marks i h ∙ ap (λ (t : Bool). pick t true (is_in (get_or l i 0) ks)) (clear i))
   where
     clear : (i : ℕ) → marked old i ≡ false
     clear i = mark_not old i (omega (arith, ap (λ (x : List ℕ). get_or x i 0) z, zeros-at 65536 i))
+
+-- as the code asks it
+pub window-seen : (l ks old new : List ℕ) → length l ≤ 65536 → old ≡ replicate 65536 0 → Seen l ks old new
+    → not (list_any (λ x. eqb x 0) (take (length l) new)) ≡ all_in ks l
+window-seen l ks old new h z s =
+    none-clear new (length l) 0 (omega (arith, h, s.size, ap length z, length-replicate {A = ℕ} 65536 0)) ∙ window-each l ks old new (length l) refl z s

@@ -1,15 +1,15 @@
 -- Laws of a loop over the order: how it begins, goes on and ends, what it reads, and that it reads the bits of the glyphs alone.
-use Rattle.std.specs.Prelude.{ℕ, ◌+◌, ◌-◌, ◌≤◌, ◌<◌, ◌≡◌, refl, List, length, take, drop, get_or}
+use Rattle.std.specs.Prelude.{ℕ, ◌+◌, ◌-◌, ◌/◌, ◌%◌, ◌≤◌, ◌<◌, ◌≡◌, refl, List, length, take, drop, get_or}
 use Rattle.std.proofs.Common.{sym, ap, ◌∙◌, subst, inl, ⊎_elim, arith}
 use Rattle.bits.specs.Bits.{words_for}
-use Rattle.cff.specs.Reads.{GoodFont}
+use Rattle.cff.specs.Reads.{program_of, GoodFont}
 use Rattle.cff.specs.declared.font.Font.{Font}
 use Rattle.order.specs.Walks.{many_in, order_in}
 use Rattle.order_window.specs.declared.Held.{Held}
 use Rattle.order_window.specs.declared.Order.{Order}
-use Rattle.order_window.specs.Window.{Holds, Steady, Gathered}
+use Rattle.order_window.specs.Window.{glyphs_of, Holds, Steady, Gathered}
 use Rattle.order_window.specs.WindowLaws.{held_word}
-use Rattle.order_window.specs.GatheredLaws.{same-gathered, same-steady}
+use Rattle.order_window.specs.GatheredLaws.{same-gathered, same-steady, read_glyph as glyph_at, read_below as below_at, read_id as id_at}
 
 -- the kept glyphs of a font, and the window, where no loop is under way
 pub record Ordered (b ws window : List ℕ) (o : Order) : Type 0 where
@@ -110,6 +110,21 @@ module _ (b ws old : List ℕ) (o : Order) (s : Ordered b ws old o) where
 pub read_word : (b : List ℕ) (f : Font) (ws window : List ℕ) (u : Held) → Holds b f ws window u → (i : ℕ) → u.from ≤ i → i < u.walk.done
     → (w : ℕ) → w ≡ get_or window (i - u.from) 0 → w ≡ get_or (order_in b f ws) i 0
 read_word b f ws window u s i low high w is = is ∙ held_word b f ws window u s i low high
+
+-- what the word says that a window holds
+module _ (b : List ℕ) (f : Font) (ws window : List ℕ) (u : Held) (s : Holds b f ws window u) (i : ℕ) (low : u.from ≤ i) (high : i < u.walk.done)
+    (few : many_in f < 65536) (more : i < length (order_in b f ws)) (w : ℕ) (is : w ≡ get_or window (i - u.from) 0) where
+  word : w ≡ get_or (order_in b f ws) i 0
+  word = read_word b f ws window u s i low high w is
+
+  pub read_glyph : w % 65536 ≡ get_or (glyphs_of b f ws) i 0
+  read_glyph = glyph_at b f ws i few more w word
+
+  pub read_below : w % 65536 < many_in f
+  read_below = below_at b f ws i few more w word
+
+  pub read_id : w / 65536 ≡ get_or (program_of b f).ids (get_or (glyphs_of b f ws) i 0) 0
+  read_id = id_at b f ws i few more w word
 
 -- ---- words whose bits of the glyphs are the same
 

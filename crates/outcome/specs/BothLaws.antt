@@ -4,7 +4,7 @@ use Rattle.std.proofs.Common.{sym, ap, ◌∙◌, arith, take-take}
 use Rattle.octets.specs.Lists.{all_below}
 use Rattle.index.specs.IndexLaws.{items-length}
 use Rattle.unfold.specs.Unfold.{Row}
-use Rattle.cff.specs.Reads.{program_of}
+use Rattle.cff.specs.Reads.{program_of, GoodFont}
 use Rattle.cff.specs.declared.font.Font.{Font}
 use Rattle.subset.specs.Kept.{kept_of, written_order}
 use Rattle.small.specs.Small.{small_size}
@@ -13,6 +13,7 @@ use Rattle.order.specs.Order.{kept_in}
 use Rattle.order.specs.Walks.{many_in}
 use Rattle.order_window.specs.Window.{glyphs_of}
 use Rattle.subset.specs.Cut.{all_found_lem}
+use Rattle.faithful.specs.FontHeld.{FontHeld}
 use Rattle.renumber.specs.declared.Ranks.{Ranks}
 use Rattle.bodies.specs.Ways.{kept_count}
 use Rattle.fds.specs.Parts.{PartsFit}
@@ -36,10 +37,10 @@ part_stays n k m old new h e = sym (part-take n k m new h) ∙ ap (λ (l : List 
 -- ---- the order
 
 -- what gathering the kept glyphs asks
-pub gather_asked : (b : List ℕ) (f : Font) (keep ws window : List ℕ) → all_below (length (program_of b f).charstrings) keep ≡ true
+pub gather_asks : (b : List ℕ) (f : Font) (keep ws window : List ℕ) → all_below (length (program_of b f).charstrings) keep ≡ true
     → all_found_lem (program_of b f) (kept_of (length (program_of b f).charstrings) keep) ≡ true → small_size (program_of b f) ≤ length ws → 0 < length window
     → (all_below (many_in f) keep ≡ true) × (all_found_lem (program_of b f) (kept_of (many_in f) keep) ≡ true) × (words_for (many_in f) ≤ length ws) × (0 < length window)
-gather_asked b f keep ws window below found words some =
+gather_asks b f keep ws window below found words some =
     let many : length (program_of b f).charstrings ≡ many_in f = items-length b f.charstrings in
     let wide : words_for (length (program_of b f).charstrings) ≡ words_for (many_in f) = ap words_for many in (
       ap (λ (m : ℕ). all_below m keep) (sym many) ∙ below,
@@ -47,6 +48,12 @@ gather_asked b f keep ws window below found words some =
       omega (arith, words, wide),
       some,
     )
+
+-- and that the font is good
+pub gather_asked : (b : List ℕ) (f : Font) → FontHeld b f → (keep ws window : List ℕ) → all_below (length (program_of b f).charstrings) keep ≡ true
+    → all_found_lem (program_of b f) (kept_of (length (program_of b f).charstrings) keep) ≡ true → small_size (program_of b f) ≤ length ws → 0 < length window
+    → GoodFont b f × (all_below (many_in f) keep ≡ true) × (all_found_lem (program_of b f) (kept_of (many_in f) keep) ≡ true) × (words_for (many_in f) ≤ length ws) × (0 < length window)
+gather_asked b f held keep ws window below found words some = (held.font, gather_asks b f keep ws window below found words some)
 
 -- the glyphs that are gathered are the kept ones as they are written
 pub gathered-order : (b : List ℕ) (f : Font) (keep ws : List ℕ) → kept_in (many_in f) ws ≡ kept_of (many_in f) keep

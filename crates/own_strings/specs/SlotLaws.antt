@@ -210,11 +210,19 @@ module _ (strings own : List (List ℕ)) (x : ℕ) (all : List (List ℕ)) where
 
 -- ---- the code's id
 
--- a slot that has the text
+-- a slot that has a text is there, and its string is the text
+pub slot-text : (strings : List (List ℕ)) (t : List ℕ) (x : ℕ) → slot_has strings t (Some x) ≡ true → string_text strings x ≡ t
+slot-text strings t x e = same_true (string_text strings x) t e
+
+pub slot-there : (strings : List (List ℕ)) (t : List ℕ) (o : Option ℕ) → slot_has strings t o ≡ true → o ≡ None → ⊥
+slot-there strings t None e h = absurd (zero_one cc)
+slot-there strings t (Some x) e h = absurd (zero_one cc)
+
+-- and so its new id is the text's
 pub has-slot : (strings : List (List ℕ)) (t : List ℕ) (own : List (List ℕ)) (o : Option ℕ) → slot_has strings t o ≡ true → slot_id own strings o ≡ new_id own t
 unfolding slot_id
 has-slot strings t own None e = absurd (zero_one cc)
-has-slot strings t own (Some x) e = ap (new_id own) (same_true (string_text strings x) t e)
+has-slot strings t own (Some x) e = ap (new_id own) (slot-text strings t x e)
 
 module _ (strings : List (List ℕ)) (t : List ℕ) where
   first-or : (b h : Bool) (k : ℕ) (r : Option ℕ) → h ≡ is_some r → pick b true h ≡ is_some (cond b (Some k) r)

@@ -67,6 +67,11 @@ matrices_next p (f ∷ fs) (suc k) h =
     = ap (λ (n : ℕ). total (matrices_by p (take n (f ∷ fs)))) e in
     omega (arith, t, matrices_next p fs k (omega arith))
 
+-- so many of them
+pub matrices-counted : (p : Program) (fds : List ℕ) (k count : ℕ) → k ≤ count → count ≤ k → (len : ℕ) → len ≡ total (matrices_by p (take k fds))
+    → len ≡ total (matrices_by p (take count fds))
+matrices-counted p fds k count h g len e = let i : k ≡ count = omega arith in e ∙ ap (λ (n : ℕ). total (matrices_by p (take n fds))) i
+
 -- all of them
 pub matrices_all : (p : Program) (fds : List ℕ) (k : ℕ) → k ≡ length fds → (len : ℕ) → len ≡ total (matrices_by p (take k fds)) → len ≡ total (matrices_by p fds)
 matrices_all p fds k i len e = e ∙ ap (λ (n : ℕ). total (matrices_by p (take n fds))) i ∙ ap (λ (l : List ℕ). total (matrices_by p l)) (take-length fds)

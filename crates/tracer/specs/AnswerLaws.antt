@@ -82,6 +82,9 @@ module _ (p : Plain) where
 pub windows_all : (ks keys : List ℕ) (n : ℕ) → Shown ks keys n → (n ≡ 64512 → ⊥) → take n keys ≡ gathered [] ks
 windows_all ks keys n s h = sym (shows-last ks [] keys n s h)
 
+pub windows-size : (ks keys : List ℕ) (n : ℕ) → Shown ks keys n → (n ≡ 64512 → ⊥) → n ≤ length keys
+windows-size ks keys n s h = omega (arith, s.size, s.fits)
+
 -- ---- the marked glyphs
 
 module _ (m : Marked) (keys keys' : List ℕ) (a : Option ℕ) (w : Fills (met m) (record { low = 0; high = top }) keys keys' a) where
@@ -114,6 +117,9 @@ module _ (m : Marked) (keys keys' : List ℕ) (a : Option ℕ) (w : Fills (met m
         let g = refill-plain all 0 keys keys' a w n e in
         let ks = keys_of all in
         window-whole (length keys - 1024) n keys' (gathered [] (within 0 top ks)) g.window.fits h g.holds ∙ ap (gathered []) (within_all top ks (keys-below all))
+
+    pub marked-size : n < length keys - 1024 → n ≤ length keys'
+    marked-size h = (refill-plain all 0 keys keys' a w n e).window.fits
 
 pub shown_as : (ks keys : List ℕ) (n m : ℕ) → n ≡ m → Shown ks keys n → Shown ks keys m
 shown_as ks keys n m e s = subst (λ (k : ℕ). Shown ks keys k) e s

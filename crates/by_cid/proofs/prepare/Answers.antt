@@ -4,7 +4,7 @@ use Rattle.subset.specs.Flag.{flag_of}
 use Rattle.subset.specs.Cut.{Outcome}
 use Rattle.cid_parts.specs.Cid.{sized}
 use Rattle.cid_parts.specs.Subset.{made-subset}
-use Rattle.outcome.specs.BothLaws.{gather_asked}
+use Rattle.outcome.specs.BothLaws.{gather_asks}
 use Rattle.outcome.specs.Entry.{Cut}
 use Rattle.by_cid.specs.CidKeptLaws.{gathered-asked, gathered-cut}
 use Rattle.by_cid.proofs.prepare.Goals as goal
@@ -13,7 +13,7 @@ pub gather-o-requires : goal.gather-o-requires
 gather-o-requires c =
     let a = c.args in
     let p = c.requires.0 in
-    gather_asked a.font.now.loaded.bytes.now a.font.now.loaded.f a.keep.now a.words.now a.window.now p.below p.found p.room c.requires.1
+    gather_asks a.font.now.loaded.bytes.now a.font.now.loaded.f a.keep.now a.words.now a.window.now p.below p.found p.room c.requires.1
 
 pub plan_cut-cut-requires : goal.plan_cut-cut-requires
 plan_cut-cut-requires c =

@@ -2,7 +2,7 @@
 use Rattle.std.proofs.Common.{arith, refl, subst, length}
 use Rattle.subset.specs.Flag.{flag_of}
 use Rattle.subset.specs.Cut.{Outcome}
-use Rattle.outcome.specs.BothLaws.{gather_asked}
+use Rattle.outcome.specs.BothLaws.{gather_asks}
 use Rattle.outcome.specs.Entry.{cut_behind, Cut}
 use Rattle.cff.specs.Loaded.{program}
 use Rattle.refusal.specs.HandedOn.{handed_on}
@@ -15,7 +15,7 @@ use Rattle.by_name.proofs.prepare.Goals as goal
 pub gather-o-requires : goal.gather-o-requires
 gather-o-requires c =
     let p = c.requires.0 in
-    gather_asked c.args.font.now.loaded.bytes.now c.args.font.now.loaded.f c.args.keep.now c.args.words.now c.args.window.now p.below p.found p.room c.requires.1
+    gather_asks c.args.font.now.loaded.bytes.now c.args.font.now.loaded.f c.args.keep.now c.args.words.now c.args.window.now p.below p.found p.room c.requires.1
 
 pub plan_cut-requires : goal.plan_cut-requires
 plan_cut-requires c =
