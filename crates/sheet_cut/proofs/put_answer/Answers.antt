@@ -10,4 +10,4 @@ pub returns-in-Err : goal.returns-in-Err
 returns-in-Err c = wrote_as c.put_refused.ensures (refused_told _ _ _ c.args.out.now c.in-Err.is c.number.ensures)
 
 pub returns-in-Ok : goal.returns-in-Ok
-returns-in-Ok c = wrote_as c.put_subset.ensures (subset-told _ _ _ c.before.args.out.now c.in-Ok.is c.number-2.ensures)
+returns-in-Ok c = wrote_as c.put_subset.ensures (subset-told _ _ _ c.before.args.out.now c.in-Ok.is c.number-in-Ok.ensures)
