@@ -53,7 +53,9 @@ gather_asks b f keep ws window below found words some =
 pub gather_asked : (b : List ℕ) (f : Font) → FontHeld b f → (keep ws window : List ℕ) → all_below (length (program_of b f).charstrings) keep ≡ true
     → all_found_lem (program_of b f) (kept_of (length (program_of b f).charstrings) keep) ≡ true → small_size (program_of b f) ≤ length ws → 0 < length window
     → GoodFont b f × (all_below (many_in f) keep ≡ true) × (all_found_lem (program_of b f) (kept_of (many_in f) keep) ≡ true) × (words_for (many_in f) ≤ length ws) × (0 < length window)
-gather_asked b f held keep ws window below found words some = (held.font, gather_asks b f keep ws window below found words some)
+gather_asked b f held keep ws window below found words some =
+    let g = gather_asks b f keep ws window below found words some in
+    (held.font, g.0, g.1, g.2, g.3)
 
 -- the glyphs that are gathered are the kept ones as they are written
 pub gathered-order : (b : List ℕ) (f : Font) (keep ws : List ℕ) → kept_in (many_in f) ws ≡ kept_of (many_in f) keep
