@@ -9,7 +9,7 @@ use Rattle.parts.specs.Ready.{bodies_for}
 use Rattle.named_parts.specs.Named.{named_outcome, NamedPlan, NamedStrings, NamedCodes}
 use Rattle.named_parts.specs.declared.named.NamedSubset.{NamedSubset}
 use Rattle.named_parts.specs.Subset.{outcome_in}
-use Rattle.encoding.specs.Encoded.{coded_in}
+use Rattle.encoding.specs.Encoded.{coded_in, Past}
 use Rattle.outcome.specs.Entry.{Cut}
 use Rattle.subset.specs.Cut.{Outcome}
 use Rattle.outcome.specs.declared.Subsetted.{Subsetted}
@@ -39,3 +39,8 @@ module _ (ask : Bool) (b rec : List ℕ) (flag : ℕ) (o : Order) (ws : List ℕ
 abbrev pub CutsAs : (ℕ → Outcome) → Result NamedSubset Refusal → Type 0
 CutsAs o (Ok c) = (out out' : List ℕ) (a : Result Subsetted Refusal) → Cut (outcome_in c (length out)) out out' a → Cut (o (length out)) out out' a
 CutsAs o (Err e) = (out : List ℕ) → Cut (o (length out)) out out (Err e)
+
+-- the new ids that the codes have in it fit four bytes, where all that was lent do, so that a caller may keep them as u32
+abbrev pub CodesFit : List (Option ℕ) → Result NamedSubset Refusal → Type 0
+CodesFit codes (Ok c) = Past codes 256 4294967296 → Past c.codes.now 256 4294967296
+CodesFit codes (Err e) = Unit

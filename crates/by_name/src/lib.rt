@@ -7,7 +7,8 @@ ghost use Rattle.subset.specs.Flag.{flag_of};
 ghost use Rattle.outcome.specs.Entry.{cut_behind, Cut, Passed};
 ghost use Rattle.named_parts.specs.Named.{NamedCut};
 ghost use Rattle.named_parts.specs.Subset.{outcome_in};
-ghost use Rattle.by_name.specs.Prepares.{CutsAs, Prepares};
+ghost use Rattle.encoding.specs.Encoded.{Past};
+ghost use Rattle.by_name.specs.Prepares.{CodesFit, CutsAs, Prepares};
 
 use asked::Asked;
 use encoding::{Encoding, encode};
@@ -63,7 +64,8 @@ fn plan_cut(
     tables: &mut Tables,
 ) -> Result<CodedCut, Refusal>
     requires { (NamedCut font.now o words.old window.old) × (8 ≤ length slots.old) × (256 ≤ length codes.old) }
-    ensures { Prepares ask font.now asked.now.rows.now (flag_of asked.now.traced) o words.old (take 8 slots.new) codes.new words.new window.new tables.new result }
+    ensures { (Prepares ask font.now asked.now.rows.now (flag_of asked.now.traced) o words.old (take 8 slots.new) codes.new words.new window.new tables.new result)
+        × (Past codes.old 256 4294967296 → Past codes.new 256 4294967296) }
 {
     let mut kept = Kept {
         font,
@@ -101,7 +103,8 @@ fn plan_cut(
     Ok(CodedCut { cut, encoding })
 }
 
-// What the subset of the kept glyphs is written from, with its encoding where it is asked for; or refused as above. Its lifetimes are as by_cid's.
+// What the subset of the kept glyphs is written from, with its encoding where it is asked for; or refused as above. The ids of its codes fit four bytes, where
+// what was lent does. Its lifetimes are as by_cid's.
 pub fn prepare<'a, 'f: 'a, 'n: 'a>(
     font: &Held<'f>,
     ask: bool,
@@ -115,7 +118,8 @@ pub fn prepare<'a, 'f: 'a, 'n: 'a>(
 ) -> Result<NamedSubset<'a>, Refusal>
     requires { (Passed false ask (program font.now.loaded) (length asked.now.name.now) keep.now asked.now.rows.now (flag_of asked.now.traced) (length words.old))
         × (0 < length window.old) × (8 ≤ length slots.old) × (256 ≤ length codes.old) }
-    ensures { CutsAs (cut_behind ask (program font.now.loaded) asked.now.name.now keep.now asked.now.rows.now (flag_of asked.now.traced)) result }
+    ensures { (CutsAs (cut_behind ask (program font.now.loaded) asked.now.name.now keep.now asked.now.rows.now (flag_of asked.now.traced)) result)
+        × CodesFit codes.old result }
 {
     let bytes = font.loaded.bytes;
     let o = order_window::gather(&font.loaded, keep, &mut *words, &mut *window);

@@ -1,5 +1,5 @@
 -- Laws of the glyph of a string id: the length of a standard text, that it is found by the id's text, and that one that is found is in the font.
-use Rattle.std.specs.Prelude.{ℕ, zero, suc, ◌+◌, ◌<◌, ◌≡◌, refl, Bool, true, List, [], ◌∷◌, map, ltb, length, get_or, None, Option, Some}
+use Rattle.std.specs.Prelude.{ℕ, zero, suc, ◌+◌, ◌≤◌, ◌<◌, ◌≡◌, refl, Bool, true, List, [], ◌∷◌, map, ltb, eqb, length, get_or, None, Option, Some}
 use Rattle.std.proofs.Common.{sym, ap, ◌∙◌, arith, lt-ltb, ltb-true}
 use Rattle.octets.specs.Pick.{pick, pick_ind}
 use Rattle.octets.specs.PickLaws.{both_hold}
@@ -12,8 +12,10 @@ use Rattle.find.specs.Find.{glyph_with_text}
 use Rattle.cff.specs.Font.{Program}
 use Rattle.cff.specs.Reads.{GoodFont, program_of}
 use Rattle.cff.specs.declared.font.Font.{Font}
-use Rattle.subset.specs.Codes.{string_glyph}
-use Rattle.codes.specs.Filled.{stored}
+use Rattle.charset.specs.Codes.{Naming, by_number, by_string}
+use Rattle.subset.specs.Codes.{code_of, glyph_by as glyph_named, string_glyph, or_else, last_named}
+use Rattle.codes.specs.Filled.{stored, filled}
+use Rattle.codes.specs.FilledLaws.{filled_at}
 
 -- ---- the text of an id
 
@@ -53,3 +55,31 @@ string_stored b f good sid g e table code =
     let n = good_length b f.charset f.charstrings.count good.ids in
     let l : ltb g f.charstrings.count ≡ true = lt-ltb g f.charstrings.count (omega arith) in
     ap (λ (t : Bool). stored table code (pick t (Some g) None)) l ∙ ap (stored table code) e
+
+-- ---- all codes
+
+-- the glyph that a code names in the end is one of the font, or was there before
+module _ (p : Program) (n : ℕ) (glyphs : length p.charstrings ≤ n) (ids : length p.ids ≤ n) where
+  glyph-below : (m : Naming) (x : ℕ) → glyph_named p m ≡ Some x → x < n
+  glyph-below (by_number code g) x e =
+      pick_ind (λ (o : Option ℕ). o ≡ Some x → x < n) (ltb g (length p.charstrings)) (Some g) None
+      (λ t d. let h : g ≡ x = cc in let l = ltb-true g (length p.charstrings) t in omega (arith, glyphs))
+      (λ t d. let z : ◌≡◌ {A = ℕ} 0 1 = cc in absurd (omega arith))
+      e
+  glyph-below (by_string code sid) x e = let h = found_below p.strings (string_text p.strings sid) 0 p.ids x e in omega (arith, ids)
+
+  last-below : (c : ℕ) (prev : Option ℕ) → ((x : ℕ) → prev ≡ Some x → x < n) → (ns : List Naming) (x : ℕ) → last_named p c prev ns ≡ Some x → x < n
+  unfolding last_named
+  last-below c prev b [] x e = b x e
+  last-below c prev b (m ∷ ns) x e =
+      last-below c (pick (eqb (code_of m) c) (or_else (glyph_named p m) prev) prev)
+      (λ y. pick_ind (λ (o : Option ℕ). o ≡ Some y → y < n) (eqb (code_of m) c) (or_else (glyph_named p m) prev) prev (λ t. else-below (glyph_named p m) (glyph-below m) y) (λ t. b y))
+      ns x e
+    where
+      else-below : (f : Option ℕ) → ((y : ℕ) → f ≡ Some y → y < n) → (y : ℕ) → or_else f prev ≡ Some y → y < n
+      else-below None h y d = b y d
+      else-below (Some g) h y d = h y d
+
+  pub filled-below : (table : List (Option ℕ)) (ns : List Naming) → 256 ≤ length table → (c : ℕ) → c < 256 → ((x : ℕ) → get_or table c None ≡ Some x → x < n)
+      → (x : ℕ) → get_or (filled p table ns) c None ≡ Some x → x < n
+  filled-below table ns long c low b x e = last-below c (get_or table c None) b ns x (sym (filled_at p table ns c long low (get_or table c None) refl) ∙ e)

@@ -1,11 +1,12 @@
 -- Laws of new ids: a number above all glyphs with a code, the places of a glyph's codes filled, and what they hold once all kept glyphs came by.
-use Rattle.std.specs.Prelude.{ℕ, ◌+◌, ◌≤◌, ◌<◌, ◌≡◌, refl, Bool, true, false, eqb, length, drop, get_or, set, replicate, None, Option, Some}
+use Rattle.std.specs.Prelude.{ℕ, ◌+◌, ◌≤◌, ◌<◌, ◌≡◌, refl, Bool, true, false, eqb, length, take, drop, get_or, set, replicate, None, Option, Some}
 use Rattle.std.proofs.Math.Path.{sym, ap}
-use Rattle.std.proofs.Common.{◌∙◌, arith, eq-eqb, ne_eqb, eqb-true, length-set, drop_of_length-le, get_or-set_same, get_or-set_other}
-use mathlib.Core.List.{List, [], ◌∷◌}
+use Rattle.std.proofs.Common.{◌∙◌, arith, eq-eqb, ne_eqb, eqb-true, length-set, drop_of_length-le, get_or-set_same, get_or-set_other, get_or-take}
+use Rattle.std.proofs.Math.ListN.{get_or-append}
+use mathlib.Core.List.{List, [], ◌∷◌, ◌++◌}
 use Rattle.std.proofs.lemmas.Bool.{eqb-false}
 use Rattle.std.proofs.lemmas.List.{get_or-replicate}
-use Rattle.octets.specs.Pick.{pick}
+use Rattle.octets.specs.Pick.{pick, pick_ind}
 use Rattle.cff.specs.Font.{Program}
 use Rattle.subset.specs.Kept.{is_in}
 use Rattle.subset.specs.Texts.{name_of, new_id}
@@ -69,6 +70,29 @@ puts_none named table past glyph id high h = record { each = λ c l. none c (get
     none c (Some x) f =
         let b = f x refl in
         sym (ap (λ (t : Bool). pick t (Some id) (get_or table c None)) (ne_eqb x glyph (λ e. let z : ⊥ = omega (arith, e) in z)))
+
+-- ---- numbers above all that a table holds
+
+pub past_empty : (past : ℕ) → Past (replicate 256 None) 256 past
+past_empty past = record { each = λ c x h e. let n : None ≡ Some x = sym (get_or-replicate {A = Option ℕ} 256 c None None h) ∙ e in let z : ◌≡◌ {A = ℕ} 0 1 = cc in absurd (omega arith) }
+
+pub past_puts : (named old new : List (Option ℕ)) (glyph id past : ℕ) → Puts named old glyph id new → id < past → Past old 256 past → Past new 256 past
+past_puts named old new glyph id past w less l =
+    record {
+      each = λ c x h e.
+          pick_ind (λ (o : Option ℕ). o ≡ Some x → x < past) (has_glyph (get_or named c None) glyph) (Some id) (get_or old c None)
+          (λ t d. let k : id ≡ x = cc in omega (arith, less))
+          (λ t d. l.each c x h d)
+          (sym (w.each c h) ∙ e);
+    }
+
+-- in front of more
+pub past_front : (first rest : List (Option ℕ)) (past : ℕ) → length first ≡ 256 → Past first 256 past → Past (first ++ rest) 256 past
+past_front first rest past n l = record { each = λ c x h e. l.each c x h (sym (get_or-append first rest None c (omega (arith, n))) ∙ e) }
+
+pub past_first : (table first : List (Option ℕ)) (past : ℕ) → first ≡ take 256 table → Past table 256 past → Past first 256 past
+past_first table first past is l =
+    record { each = λ c x h e. l.each c x h (sym (ap (λ (t : List (Option ℕ)). get_or t c None) is ∙ get_or-take 256 table c None h) ∙ e) }
 
 -- ---- all glyphs, one after the other
 

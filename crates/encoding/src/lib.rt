@@ -83,7 +83,7 @@ fn rename(
 )
     requires { CanRename kept.old.font.now kept.old.o.f kept.old.words.now (take 8 slots.now) }
     ensures { (Renames (program_of kept.old.font.now kept.old.o.f) (own_kept kept.old) (kept_glyphs kept.old) named.now table.new)
-        × Stays kept.old kept.new }
+        × (Stays kept.old kept.new) × Past table.new 256 4294967296 }
 {
     let font = kept.font;
     let strings = Items {
@@ -116,7 +116,7 @@ fn encode_asked(kept: &mut Kept<'_>, slots: &[Slot], table: &mut [Option<usize>;
         (coded_by_lem (program_of kept.old.font.now kept.old.o.f) (kept_glyphs kept.old) (own_kept kept.old)
         (program_of kept.old.font.now kept.old.o.f).coding)
         table.new result)
-        × Stays kept.old kept.new × (length table.new ≡ 256) }
+        × (Stays kept.old kept.new) × (length table.new ≡ 256) × (Past table.old 256 4294967296 → Past table.new 256 4294967296) }
 {
     let f = kept.o.f;
     let at = f.encoding;
@@ -139,7 +139,7 @@ fn encode_asked(kept: &mut Kept<'_>, slots: &[Slot], table: &mut [Option<usize>;
 }
 
 // The encoding of the subset of a name-keyed font, where it is asked for: of the kept glyphs by the new ids of their names, the slots holding the strings
-// that the subset uses before them.
+// that the subset uses before them. The table holds ids of at most four bytes, if it did.
 pub fn encode(
     kept: &mut Kept<'_>,
     ask: bool,
@@ -148,7 +148,7 @@ pub fn encode(
 ) -> Encoding
     requires { CanRename kept.old.font.now kept.old.o.f kept.old.words.now (take 8 slots.now) × (256 ≤ length table.old) }
     ensures { (Encodes (coded_if ask (program_of kept.old.font.now kept.old.o.f) (kept_glyphs kept.old) (own_kept kept.old)) table.new result)
-        × Stays kept.old kept.new }
+        × (Stays kept.old kept.new) × (Past table.old 256 4294967296 → Past table.new 256 4294967296) }
 {
     let Some(first) = table.first_chunk_mut() else {
         unreachable!()

@@ -20,10 +20,10 @@ pub returns-in_err-c : goal.returns-in_err-c
 returns-in_err-c c =
     let a = c.args in
     let o = cut_behind a.ask (program a.font.now.loaded) a.asked.now.name.now a.keep.now a.asked.now.rows.now (flag_of a.asked.now.traced) in
-    handed_on _ _ (λ (r : Result Subsetted Refusal). Cut (o (length a.out.now)) a.out.now a.out.now r) c.from_residual.ensures.1 (subst (CutsAs o) c.in_err-c.was c.prepare.ensures a.out.now)
+    handed_on _ _ (λ (r : Result Subsetted Refusal). Cut (o (length a.out.now)) a.out.now a.out.now r) c.from_residual.ensures.1 (subst (CutsAs o) c.in_err-c.was c.prepare.ensures.0 a.out.now)
 
 pub returns : goal.returns
 returns c =
     let a = c.args in
     let o = cut_behind a.ask (program a.font.now.loaded) a.asked.now.name.now a.keep.now a.asked.now.rows.now (flag_of a.asked.now.traced) in
-    subst (CutsAs o) c.in_ok-c.was c.prepare.ensures _ _ _ c.cut_planned.ensures
+    subst (CutsAs o) c.in_ok-c.was c.prepare.ensures.0 _ _ _ c.cut_planned.ensures

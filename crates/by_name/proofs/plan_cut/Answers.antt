@@ -14,7 +14,7 @@ use Rattle.by_name.proofs.plan_cut.Goals as goal
 pub returns-then-own-gt64609 : goal.returns-then-own-gt64609
 returns-then-own-gt64609 c =
     let e = c.prepare_named-own.ensures in
-    named_refused c.args.ask _ c.args.asked.now.rows.now (flag_of c.args.asked.now.traced) _ _ _ c.requires.0 _ _ e.0 e.1 c.if-own-gt64609.true
+    (named_refused c.args.ask _ c.args.asked.now.rows.now (flag_of c.args.asked.now.traced) _ _ _ c.requires.0 _ _ e.0 e.1 c.if-own-gt64609.true, λ l. l)
 
 pub encode-encoding-requires : goal.encode-encoding-requires
 encode-encoding-requires c =
@@ -23,9 +23,11 @@ encode-encoding-requires c =
 
 pub returns-then-pairs-gt255 : goal.returns-then-pairs-gt255
 returns-then-pairs-gt255 c =
-    let e = c.prepare_named-own.ensures in
-    pairs_refused c.args.ask _ c.args.asked.now.rows.now (flag_of c.args.asked.now.traced) _ _ _ c.requires.0 _ _ e.0 e.1 c.if-own-gt64609.false _ _
-    (codes-stay _ _ e.2 c.args.ask _ _ c.encode-encoding.ensures.0) (omega (arith, c.pairs.ensures, c.if-pairs-gt255.true))
+    let e = c.prepare_named-own.ensures in (
+      pairs_refused c.args.ask _ c.args.asked.now.rows.now (flag_of c.args.asked.now.traced) _ _ _ c.requires.0 _ _ e.0 e.1 c.if-own-gt64609.false _ _
+          (codes-stay _ _ e.2 c.args.ask _ _ c.encode-encoding.ensures.0) (omega (arith, c.pairs.ensures, c.if-pairs-gt255.true)),
+      c.encode-encoding.ensures.2,
+    )
 
 pub plan_all-plan-requires : goal.plan_all-plan-requires
 plan_all-plan-requires c =
@@ -43,7 +45,9 @@ returns c =
     let s = stays-then _ _ _ e.2 c.encode-encoding.ensures.1 in
     let w : c.window-2-1.given.0 ≡ c.encode-encoding.new.kept.window.now = search (rules, s.same) in
     let g = subst (λ (l : List ℕ). Gathered c.args.font.now c.args.words.now l c.encode-encoding.new.kept.o) (sym w) (gathered-stays _ _ s) in
-    let p = c.plan_all-plan.ensures in
-    all_prepared c.args.ask _ c.args.asked.now.rows.now (flag_of c.args.asked.now.traced) _ _ _ c.requires.0 _ _ s.f g _ _ e.0 e.1 c.if-own-gt64609.false _ _
-    (codes-stay _ _ e.2 c.args.ask _ _ c.encode-encoding.ensures.0) (omega (arith, c.pairs.ensures, c.if-pairs-gt255.false)) _
-    first-only _ _ p.3 p.4 p.5 _ p.0 p.1 p.2 (rw (byte_is _ _ c.from.ensures) at p.6)
+    let p = c.plan_all-plan.ensures in (
+      all_prepared c.args.ask _ c.args.asked.now.rows.now (flag_of c.args.asked.now.traced) _ _ _ c.requires.0 _ _ s.f g _ _ e.0 e.1 c.if-own-gt64609.false _ _
+          (codes-stay _ _ e.2 c.args.ask _ _ c.encode-encoding.ensures.0) (omega (arith, c.pairs.ensures, c.if-pairs-gt255.false)) _
+          first-only _ _ p.3 p.4 p.5 _ p.0 p.1 p.2 (rw (byte_is _ _ c.from.ensures) at p.6),
+      c.encode-encoding.ensures.2,
+    )

@@ -5,8 +5,8 @@ use Rattle.own_strings.specs.IdsLaws.{given-long}
 use Rattle.order_window.specs.GatheredLaws.{glyphs_many}
 use Rattle.order_window.specs.Stays.{order_of, stays-refl, stays-then, stays-word, stays-glyph}
 use Rattle.name_strings.specs.NamesLaws.{order_id}
-use Rattle.name_strings.specs.NamingLaws.{naming-start, naming_asks, naming_counts, naming_id, naming-next}
-use Rattle.encoding.specs.IdLaws.{renaming_start, renaming_next, renaming_done}
+use Rattle.name_strings.specs.NamingLaws.{naming-start, naming_asks, naming_counts, naming_id, naming-below, naming-next}
+use Rattle.encoding.specs.IdLaws.{past_empty, past_puts, renaming_start, renaming_next, renaming_done}
 use Rattle.encoding.proofs.rename.Goals as goal
 use Rattle.encoding.proofs.rename.Goals.{After-word-w, In-loop-i}
 
@@ -22,6 +22,7 @@ loop-i-init c =
       stays-refl _,
       naming-start c.args.kept.now _ _ (record { small = p.has.small; given = p.given; apart = p.apart }) c.slots_own-own.ensures,
       renaming_start _ _ _ _,
+      past_empty 4294967296,
     )
 
 pub given_id-id-requires : goal.given_id-id-requires
@@ -47,6 +48,7 @@ loop-i-preserved c =
           (stays-glyph _ _ c.loop-i.invariant.0 _ c.loop-i-test.true _ c.word-w.ensures.0)
           (naming_id _ _ _ _ _ _ n m _ w _ id
           ∙ order_id k.font.now k.o.f k.words.now k.gathered.good.glyphs.held.few (take 8 c.args.slots.now) c.requires.front c.loop-i.i m) _ c.put_id.ensures,
+      past_puts _ _ _ _ _ _ c.put_id.ensures (omega (arith, naming-below _ _ _ _ _ _ n m _ w _ id)) c.loop-i.invariant.3,
     )
 
 pub returns : goal.returns
@@ -54,4 +56,5 @@ returns c =
     let k = c.args.kept.now in (
       renaming_done _ _ _ _ _ _ c.loop-i.invariant.2 (omega (arith, c.loop-i-test.false, k.gathered.many, glyphs_many k.font.now k.o.f k.words.now)),
       c.loop-i.invariant.0,
+      c.loop-i.invariant.3,
     )

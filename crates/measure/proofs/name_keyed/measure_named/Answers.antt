@@ -22,10 +22,10 @@ pub returns-in_err-c : goal.returns-in_err-c
 returns-in_err-c c =
     let a = c.args in
     let o = cut_behind false (program a.font.now.loaded) a.asked.now.name.now a.keep.now a.asked.now.rows.now (flag_of a.asked.now.traced) in
-    handed_on _ _ (λ (r : Result Subsetted Refusal). r ≡ answer_of (o 67108864)) c.from_residual.ensures.1 (as_measured o _ _ (subst (CutsAs o) c.in_err-c.was c.prepare.ensures lent))
+    handed_on _ _ (λ (r : Result Subsetted Refusal). r ≡ answer_of (o 67108864)) c.from_residual.ensures.1 (as_measured o _ _ (subst (CutsAs o) c.in_err-c.was c.prepare.ensures.0 lent))
 
 pub returns : goal.returns
 returns c =
     let a = c.args in
     let o = cut_behind false (program a.font.now.loaded) a.asked.now.name.now a.keep.now a.asked.now.rows.now (flag_of a.asked.now.traced) in
-    as_measured o _ _ (subst (CutsAs o) c.in_ok-c.was c.prepare.ensures lent _ _ (as_cut (outcome_in c.in_ok-c.c) _ c.measure_planned.ensures))
+    as_measured o _ _ (subst (CutsAs o) c.in_ok-c.was c.prepare.ensures.0 lent _ _ (as_cut (outcome_in c.in_ok-c.c) _ c.measure_planned.ensures))
