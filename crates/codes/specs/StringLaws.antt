@@ -58,7 +58,7 @@ string_stored b f good sid g e table code =
 
 -- ---- all codes
 
--- the glyph that a code names in the end is one of the font, or was there before
+-- the glyph that a code names in the end is below a number that is no less than those of glyphs and ids, if what was there before is
 module _ (p : Program) (n : ℕ) (glyphs : length p.charstrings ≤ n) (ids : length p.ids ≤ n) where
   glyph-below : (m : Naming) (x : ℕ) → glyph_named p m ≡ Some x → x < n
   glyph-below (by_number code g) x e =

@@ -77,7 +77,7 @@ abbrev pub has_glyph : Option ℕ → ℕ → Bool
 has_glyph None g = false
 has_glyph (Some x) g = eqb x g
 
--- a number is above the glyphs of all codes below one
+-- a number is above all glyphs, or ids, that a table has of the codes below one
 pub record Past (named : List (Option ℕ)) (below past : ℕ) : Type 0 where
   pub each : (c g : ℕ) → c < below → get_or named c None ≡ Some g → g < past
 

@@ -1,5 +1,6 @@
 -- `by_name::plan_cut` meets its contract: the strings are prepared, then the encoding, and where names and pairs are few the bodies are planned.
-use Rattle.std.proofs.Common.{arith, rules, sym, subst, ◌≡◌, List, ℕ}
+use Rattle.std.proofs.Common.{arith, rules, sym, subst, length-set, ◌≡◌, List, ℕ}
+use Rattle.std.specs.Prelude.{Option}
 use Rattle.subset.specs.Flag.{flag_of}
 use Rattle.named_parts.specs.Named.{first_fd}
 use Rattle.order_window.specs.Stays.{stays-then}
@@ -19,7 +20,7 @@ returns-then-own-gt64609 c =
 pub encode-encoding-requires : goal.encode-encoding-requires
 encode-encoding-requires c =
     let e = c.prepare_named-own.ensures in
-    (rename-stays _ _ e.2 _ (names-rename c.args.ask _ c.args.asked.now.rows.now (flag_of c.args.asked.now.traced) _ _ _ c.requires.0 _ _ e.0 e.1), c.requires.2)
+    (rename-stays _ _ e.2 _ (names-rename c.args.ask _ c.args.asked.now.rows.now (flag_of c.args.asked.now.traced) _ _ _ c.requires.0 _ _ e.0 e.1), omega (arith, c.requires.2, length-set {A = Option ℕ}))
 
 pub returns-then-pairs-gt255 : goal.returns-then-pairs-gt255
 returns-then-pairs-gt255 c =
